@@ -9,7 +9,8 @@ use Rattle.mta_audit_run.specs.Audit.{lines_of}
 use Rattle.mta_audit_run.specs.Lines.{AllAudited, text_of}
 use Rattle.mta_audit_run.specs.Kept.{IsKept, IsRead}
 use Rattle.mta_audit_run.specs.Outcome.{AreTwo, DiskFailed, Handed, Outcome}
-use Rattle.mta_audit_run.specs.Output.{Output, OutputFailed, Prints, HasClosed}
+use Rattle.mta_output.specs.Output.{Output, OutputFailed, Prints}
+use Rattle.mta_audit_run.specs.Output.{HasClosed}
 
 -- What becomes of the disks, and what is printed: the lines of the audit, or that of a stop that has its cause.
 pub record HasRun {D E : Type 0} (h : Handed D E) (out : Output) (status : ℕ) : Type 0 where

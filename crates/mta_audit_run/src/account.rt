@@ -68,7 +68,7 @@ impl Account {
     pub fn begun(alloc: Global, lane: &Lane) -> Result<Account, Memory>
         ensures { IfOk result (λ a. a ≡ account_begun lane.now) }
     {
-        let peer = lane.peer().copy(alloc)?;
+        let peer = lane.peer().share()?;
         let reference = lane.reference().copy(alloc)?;
         Ok(Account::new(alloc, true, lane.number(), lane.role(), peer, reference))
     }

@@ -2,7 +2,8 @@
 
 ghost use Rattle.std.specs.Prelude.{◌≡◌, ◌≤◌, ◌++◌, ◌∷◌, [], IfOk, OnOk};
 ghost use Rattle.std.specs.Fmt.{decimal};
-ghost use Rattle.mta_audit_run.specs.Output.{HasClosed, HasPrinted, HasTold, output};
+ghost use Rattle.mta_output.specs.Output.{HasPrinted, output};
+ghost use Rattle.mta_audit_run.specs.Output.{HasClosed, HasTold};
 ghost use Rattle.mta_audit_run.specs.Stops.{line_of, status_by, status_of};
 
 use crate::audit::Report;

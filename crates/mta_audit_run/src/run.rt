@@ -2,7 +2,7 @@
 
 ghost use Rattle.std.specs.Prelude.{◌≡◌, ◌≤◌, map, string_bytes};
 ghost use Rattle.mta_audit_run.specs.Outcome.{HasAudited, handed};
-ghost use Rattle.mta_audit_run.specs.Output.{output};
+ghost use Rattle.mta_output.specs.Output.{output};
 ghost use Rattle.mta_audit_run.specs.Ran.{HasRun, IsComplete, Tells};
 ghost use Rattle.mta_audit_run.specs.Second.{HasSeen, IsReported};
 

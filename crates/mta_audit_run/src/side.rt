@@ -109,22 +109,22 @@ fn text_reads(tables: &Tables)
 }
 
 // The agent's own name by its tables.
-fn own_name(alloc: Global, tables: &Tables) -> Result<Word, Memory>
+fn own_name(tables: &Tables) -> Result<Word, Memory>
     ensures { IfOk result (λ own. Some own ≡ option_map own_in (tables_value tables.now.text)) }
 {
     text_reads(tables);
-    tables.own().copy(alloc)
+    tables.own().share()
 }
 
 // The agent's own name.
 #[tactic(auto, using(crate::proofs::Own::own_laws))]
-fn own_of(alloc: Global, replay: &Replay<TableRules>) -> Result<Option<Word>, Memory>
+fn own_of(replay: &Replay<TableRules>) -> Result<Option<Word>, Memory>
     requires { IsSound format_of text_of replay.now.kept replay.now.rules }
     ensures { IfOk result (λ own. own ≡ own_by (state_of replay.now.kept).machine) }
 {
     match &replay.rules {
         Some(force) => {
-            let own = own_name(alloc, force.rules.tables())?;
+            let own = own_name(force.rules.tables())?;
             Ok(Some(own))
         }
         None => Ok(None),
@@ -142,7 +142,7 @@ fn side_of(
     requires ascending { AreAscending accounts.items }
     ensures { IfOk result (IsSideAt (state_of replay.kept) begun accounts.items) }
 {
-    let own = own_of(alloc, &replay)?;
+    let own = own_of(&replay)?;
     note_endings(alloc, &mut accounts, replay.lanes().open_lanes.as_slice())?;
     Ok(Side {
         own,

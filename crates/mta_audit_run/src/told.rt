@@ -85,7 +85,7 @@ pub fn told_by(alloc: Global, lanes: &Lanes, step: &Step) -> Result<Told, Memory
             reference,
             ..
         } => {
-            let peer = peer.copy(alloc)?;
+            let peer = peer.share()?;
             let reference = reference.copy(alloc)?;
             Ok(Told::Opened {
                 role: *role,

@@ -30,7 +30,8 @@ use Rattle.mta_words.specs.declared.words.Words.TheVariants as Say
 use Rattle.mta_commands.specs.Words.{Serves}
 use Rattle.mta_commands.specs.Handed.{Handed, ForInput, ForOpened}
 use Rattle.mta_commands.specs.Lines.{accepted_line, line_of}
-use Rattle.mta_commands.specs.Output.{Output, IsFront, IsEnded, done, told, cut_text, cut_line}
+use Rattle.mta_output.specs.Output.{Output}
+use Rattle.mta_commands.specs.Output.{IsFront, IsEnded, done, told, cut_text, cut_line}
 use Rattle.mta_commands.specs.DiskLeft.{Opening}
 use Rattle.mta_commands.specs.Submit.{IsAccepted}
 use Rattle.mta_commands.specs.Causes.{IsText, of_submit, of_queue, of_mailbox, of_serve, of_decode, of_drill, Cause}

@@ -10,7 +10,8 @@ use Rattle.mta_commands.specs.declared.stop.Stop.TheVariants as Stops
 use Rattle.mta_words.specs.declared.words.Words.TheVariants as Say
 use Rattle.mta_commands.specs.Handed.{handed}
 use Rattle.mta_commands.specs.Inputs.{longest_tables, IsTold, IsInputStop, HasOctets}
-use Rattle.mta_commands.specs.Output.{Output, stopped, HasShown}
+use Rattle.mta_output.specs.Output.{Output}
+use Rattle.mta_commands.specs.Output.{stopped, HasShown}
 use Rattle.mta_commands.specs.DiskLeft.{uncalled}
 use Rattle.mta_commands.specs.Causes.{of_decode, Cause, memory, source, apdu}
 use Rattle.mta_commands.specs.Command.{HasEnded, NoneWorked}

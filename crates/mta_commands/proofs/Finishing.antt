@@ -13,7 +13,8 @@ use Rattle.mta_stations.specs.Deciding.{Decides, halts_of, IsUndecided, status_o
 use Rattle.mta_stations.specs.Lines.{station_lines}
 use Rattle.mta_commands.specs.declared.stop.Stop.{Stop}
 use Rattle.mta_commands.specs.declared.stop.Stop.TheVariants as Stops
-use Rattle.mta_commands.specs.Output.{cut, HasPrinted, HasShown, Output, stopped, whole}
+use Rattle.mta_output.specs.Output.{Output}
+use Rattle.mta_commands.specs.Output.{cut, HasPrinted, HasShown, stopped, whole}
 use Rattle.mta_commands.specs.Serving.{Had_ended, HasFinished, HasToldStations, IsFinishStop, IsOutcome}
 use Rattle.mta_commands.specs.Serving.{IsOwnRefusal, Settled, SettlesBehind, Well}
 use Rattle.mta_commands.proofs.Beginning.{settled_why}

@@ -13,7 +13,8 @@ use Rattle.mta_stations.specs.Deciding.{halts_of, IsUndecided}
 use Rattle.mta_commands.specs.Words.{AddsSteps, OpensDisk}
 use Rattle.mta_commands.specs.Handed.{ForOpenedDisk, Handed, handed}
 use Rattle.mta_commands.specs.Inputs.{IsDrawn}
-use Rattle.mta_commands.specs.Output.{Output, IsFront, HasPrinted, whole, stopped, cut, HasShown}
+use Rattle.mta_output.specs.Output.{Output}
+use Rattle.mta_commands.specs.Output.{IsFront, HasPrinted, whole, stopped, cut, HasShown}
 use Rattle.mta_commands.specs.DiskLeft.{Opening, uncalled, DiskLeft}
 use Rattle.mta_commands.specs.Causes.{Cause, IsText}
 use Rattle.mta_commands.specs.Command.{SourcesLeft, HasEnded, OnStations}

@@ -9,7 +9,8 @@ use Rattle.mta_edge.specs.Streams.{TakesFront}
 use Rattle.mta_commands.specs.declared.stop.Stop.{Stop}
 use Rattle.mta_commands.specs.declared.stop.Stop.TheVariants as Stops
 use Rattle.mta_commands.specs.Lines.{line_of, status_of}
-use Rattle.mta_commands.specs.Output.{Output, output, Prints, IsFront, HasPrinted, whole, stopped, cut, IsEnded}
+use Rattle.mta_output.specs.Output.{Output, output, Prints}
+use Rattle.mta_commands.specs.Output.{IsFront, HasPrinted, whole, stopped, cut, IsEnded}
 use Rattle.mta_commands.specs.Output.{done, told, cut_text, cut_line, HasTold, line, short, failed, short_failed}
 use Rattle.mta_commands.specs.Output.{HasClosed}
 

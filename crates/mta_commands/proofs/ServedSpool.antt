@@ -26,7 +26,8 @@ use Rattle.mta_commands.specs.Command.{HasEnded, OnStations, SourcesLeft}
 use Rattle.mta_commands.specs.DiskLeft.{DiskLeft, opened}
 use Rattle.mta_commands.specs.Handed.{DiskFailed, ForOpened, ForTables, Handed, InputsRead}
 use Rattle.mta_commands.specs.Inputs.{HasTables}
-use Rattle.mta_commands.specs.Output.{Output, stopped}
+use Rattle.mta_output.specs.Output.{Output}
+use Rattle.mta_commands.specs.Output.{stopped}
 use Rattle.mta_commands.specs.Provenance.{AreOfCall, AreOfRun, AreTablesOf}
 use Rattle.mta_commands.specs.Serving.{HasBegun, IsOwnFull}
 use Rattle.mta_commands.specs.Serving.{IsOwnRefusal, IsOwnSpent, RecordsFirst}

@@ -20,7 +20,8 @@ use Rattle.mta_words.specs.declared.words.Words.TheVariants as Say
 use Rattle.mta_commands.specs.Words.{AddsSteps, ReadsTables, ReadsApdu, OpensDisk}
 use Rattle.mta_commands.specs.Handed.{Handed, handed, InputsRead}
 use Rattle.mta_commands.specs.Inputs.{longest_tables}
-use Rattle.mta_commands.specs.Output.{Output, stopped, HasShown}
+use Rattle.mta_output.specs.Output.{Output}
+use Rattle.mta_commands.specs.Output.{stopped, HasShown}
 use Rattle.mta_commands.specs.DiskLeft.{Opening, refused, opened}
 use Rattle.mta_commands.specs.Causes.{mailbox_named, queue_of, mailbox_of, IsText, of_queue, of_mailbox, Cause}
 use Rattle.mta_commands.specs.Causes.{memory as cause_memory, not_spool as cause_not_spool}

@@ -27,7 +27,8 @@ use Rattle.mta_commands.specs.Words.{AddsSteps, ReadsTables, ReadsApdu, OpensDis
 use Rattle.mta_commands.specs.Handed.{Handed, handed, ForDisk, ForTables, ForOpenedDisk, DiskFailed, InputsRead}
 use Rattle.mta_commands.specs.Inputs.{IsReadAsTables, AreTablesRead, HasTables, IsInputStop}
 use Rattle.mta_commands.specs.Inputs.{HasInput, HasInputs, no_tables, no_apdu, both}
-use Rattle.mta_commands.specs.Output.{Output, HasPrinted, stopped}
+use Rattle.mta_output.specs.Output.{Output}
+use Rattle.mta_commands.specs.Output.{HasPrinted, stopped}
 use Rattle.mta_commands.specs.DiskLeft.{uncalled, refused, opened, DiskLeft}
 use Rattle.mta_commands.specs.Submit.{AreOwn, IsFullFor, IsSpentFor, IsAccepted, IsWorkStop, full, spent, disk, memory}
 use Rattle.mta_commands.specs.Submit.{IsAcceptedLine, HasWorked}

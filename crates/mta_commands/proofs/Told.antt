@@ -2,7 +2,8 @@
 use Rattle.std.proofs.Common.{◌≡◌, ℕ, List, Result, Ok, Err, subst}
 use Rattle.std.specs.Prelude.{IfOk}
 use Rattle.mta_ber.specs.declared.memory.Memory.{Memory}
-use Rattle.mta_commands.specs.Output.{Output, Tells, TellsLine}
+use Rattle.mta_output.specs.Output.{Output}
+use Rattle.mta_commands.specs.Output.{Tells, TellsLine}
 
 pub line_told : (made : Result (List ℕ) Memory) (text : List ℕ) (good : ℕ) (out : Output) (status : ℕ)
     → IfOk made (λ l. l ≡ text) → TellsLine made good out status → Tells text good out status

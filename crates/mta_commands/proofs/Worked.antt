@@ -17,7 +17,8 @@ use Rattle.mta_spool.specs.Stands.{IsOfNoLane}
 use Rattle.mta_commands.specs.declared.stop.Stop.{Stop}
 use Rattle.mta_commands.specs.declared.stop.Stop.TheVariants as Stops
 use Rattle.mta_commands.specs.Lines.{accepted_line}
-use Rattle.mta_commands.specs.Output.{Output, Prints, PrintsFront, whole, stopped, cut, HasPrinted}
+use Rattle.mta_output.specs.Output.{Output, Prints, PrintsFront}
+use Rattle.mta_commands.specs.Output.{whole, stopped, cut, HasPrinted}
 use Rattle.mta_commands.specs.Submit.{AreInTurn, Adds, IsNextStep, tables, apdu, due}
 use Rattle.mta_commands.specs.Submit.{IsRefusal, IsAccepted, HasStored, HasSettled, HasAcknowledged, stop_of_step}
 use Rattle.mta_commands.specs.Submit.{IsWorkStop, full, spent, disk, memory, IsAcceptedLine, HasWorked}

@@ -11,7 +11,8 @@ use Rattle.mta_stations.specs.Deciding.{halts_of, IsUndecided}
 use Rattle.mta_commands.specs.declared.stop.Stop.{Stop}
 use Rattle.mta_commands.specs.Words.{AddsSteps, ReadsTables, ReadsApdu, OpensDisk, Serves}
 use Rattle.mta_commands.specs.Handed.{Handed, ForTables, ForInput, ForOpened, ForOpenedDisk}
-use Rattle.mta_commands.specs.Output.{Output, HasPrinted}
+use Rattle.mta_output.specs.Output.{Output}
+use Rattle.mta_commands.specs.Output.{HasPrinted}
 use Rattle.mta_commands.specs.Inputs.{longest_tables, IsDrawn}
 use Rattle.mta_commands.specs.DiskLeft.{Opening, uncalled, DiskLeft}
 use Rattle.mta_commands.specs.Images.{IsSafeBefore}

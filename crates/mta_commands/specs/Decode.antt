@@ -6,7 +6,8 @@ use Rattle.mta_apdu.specs.Apdus.{ApduValue, SpellsApdu, longest_apdu}
 use Rattle.mta_apdu_text.specs.Apdus.{apdu_text}
 use Rattle.mta_commands.specs.declared.stop.Stop.{Stop}
 use Rattle.mta_commands.specs.Inputs.{IsDrawn, IsInputStop}
-use Rattle.mta_commands.specs.Output.{Output, HasPrinted}
+use Rattle.mta_output.specs.Output.{Output}
+use Rattle.mta_commands.specs.Output.{HasPrinted}
 
 -- the text of the APDU that octets spell, or why there is none
 abbrev pub IsDecodedAs : List ℕ → Result (List ℕ) Stop → Type 0

@@ -21,7 +21,8 @@ use Rattle.mta_stations.specs.Lines.{station_lines}
 use Rattle.mta_spool.specs.Moments.{IsTimed}
 use Rattle.mta_commands.specs.declared.stop.Stop.{Stop}
 use Rattle.mta_commands.specs.declared.stop.Stop.TheVariants as Stops
-use Rattle.mta_commands.specs.Output.{Output, HasPrinted, Prints, PrintsFront}
+use Rattle.mta_output.specs.Output.{Output, Prints, PrintsFront}
+use Rattle.mta_commands.specs.Output.{HasPrinted}
 use Rattle.mta_commands.specs.Submit.{Adds, AreInTurn, HasSettled, stop_of_step}
 
 -- ---- steps of its own

@@ -13,7 +13,8 @@ use Rattle.mta_commands.specs.declared.stop.Stop.{Stop}
 use Rattle.mta_commands.specs.declared.stop.Stop.TheVariants as Stops
 use Rattle.mta_words.specs.declared.words.Words.{Words}
 use Rattle.mta_words.specs.declared.words.Words.TheVariants as Say
-use Rattle.mta_commands.specs.Output.{Output, HasPrinted}
+use Rattle.mta_output.specs.Output.{Output}
+use Rattle.mta_commands.specs.Output.{HasPrinted}
 use Rattle.mta_commands.specs.DiskLeft.{Opening, refused, opened, DiskLeft}
 use Rattle.mta_commands.specs.Images.{IsSafeBefore}
 use Rattle.mta_commands.specs.Causes.{mailbox_named, queue_of, mailbox_of}

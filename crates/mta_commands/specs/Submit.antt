@@ -22,7 +22,8 @@ use Rattle.mta_commands.specs.declared.stop.Stop.{Stop}
 use Rattle.mta_commands.specs.declared.stop.Stop.TheVariants as Stops
 use Rattle.mta_spool.specs.Crashing.{Leaves}
 use Rattle.mta_commands.specs.Lines.{accepted_line}
-use Rattle.mta_commands.specs.Output.{Output, Prints, PrintsFront, HasPrinted}
+use Rattle.mta_output.specs.Output.{Output, Prints, PrintsFront}
+use Rattle.mta_commands.specs.Output.{HasPrinted}
 
 -- ---- whose the steps are
 

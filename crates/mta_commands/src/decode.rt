@@ -5,7 +5,7 @@
 
 ghost use Rattle.std.specs.Prelude.{◌≡◌, ◌≤◌};
 ghost use Rattle.mta_commands.specs.Decode.{IsDecodedAs, HasDecoded};
-ghost use Rattle.mta_commands.specs.Output.{output};
+ghost use Rattle.mta_output.specs.Output.{output};
 
 use crate::inputs::octets_of;
 use crate::print::print;

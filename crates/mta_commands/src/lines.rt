@@ -8,7 +8,8 @@ ghost use Rattle.std.specs.Prelude.{◌≡◌, ◌≤◌, ◌++◌, ◌↔◌, �
 ghost use Rattle.std.specs.Fmt.{decimal};
 ghost use Rattle.mta_commands.specs.Lines.{accepted_line, kind_text, fault_text, status_of, line_of};
 ghost use Rattle.mta_commands.specs.declared.stop.Stop.TheVariants as Stops;
-ghost use Rattle.mta_commands.specs.Output.{HasTold, HasClosed, TellsLine, output};
+ghost use Rattle.mta_output.specs.Output.{output};
+ghost use Rattle.mta_commands.specs.Output.{HasTold, HasClosed, TellsLine};
 
 use crate::stop::Stop;
 use mta_apdu_text::put_number;

@@ -8,7 +8,7 @@
 ghost use Rattle.std.specs.Prelude.{◌≡◌, ◌≤◌, is_some};
 ghost use Rattle.mta_words.specs.declared.words.Words.TheVariants as Say;
 ghost use Rattle.mta_commands.specs.Causes.{mailbox_in, mailbox_named};
-ghost use Rattle.mta_commands.specs.Output.{output};
+ghost use Rattle.mta_output.specs.Output.{output};
 ghost use Rattle.mta_commands.specs.Shows.{IsMailboxShown, HasShownSpool};
 
 use crate::ended::{Ended, refused};

@@ -1,7 +1,8 @@
 //! Printing a text.
 
 ghost use Rattle.std.specs.Prelude.{◌≤◌};
-ghost use Rattle.mta_commands.specs.Output.{HasShown, output};
+ghost use Rattle.mta_output.specs.Output.{output};
+ghost use Rattle.mta_commands.specs.Output.{HasShown};
 
 use crate::stop::Stop;
 use mta_ber::Octets;

@@ -7,7 +7,7 @@
 ghost use Rattle.std.specs.Prelude.{◌≡◌, ◌≤◌};
 ghost use Rattle.mta_words.specs.declared.words.Words.TheVariants as Say;
 ghost use Rattle.mta_commands.specs.Causes.{queue_of};
-ghost use Rattle.mta_commands.specs.Output.{output};
+ghost use Rattle.mta_output.specs.Output.{output};
 ghost use Rattle.mta_commands.specs.Shows.{IsShown, HasShownSpool};
 
 use crate::ended::{Ended, refused};

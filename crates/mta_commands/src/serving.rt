@@ -10,7 +10,7 @@ ghost use Rattle.std.specs.Prelude.{◌≡◌, ◌≤◌, List, false};
 ghost use Rattle.mta_records.specs.declared.step.Step.{Step};
 ghost use Rattle.mta_spool.specs.Bases.{KeepsOn};
 ghost use Rattle.mta_spool.specs.Stands.{fault_of, IsOfNoLane, Stands, TellsFewer};
-ghost use Rattle.mta_commands.specs.Output.{output};
+ghost use Rattle.mta_output.specs.Output.{output};
 ghost use Rattle.mta_commands.specs.Serving.{HasBegun, HasFinished, HasToldStations, IsOutcome, SettlesBehind};
 
 use crate::print::print;

@@ -17,7 +17,7 @@ ghost use Rattle.mta_spool.specs.Stands.{Stands, TellsFewer};
 ghost use Rattle.mta_words.specs.declared.words.Words.TheVariants as Say;
 ghost use Rattle.mta_commands.specs.Command.{HasEnded, NoneWorked};
 ghost use Rattle.mta_commands.specs.Handed.{handed};
-ghost use Rattle.mta_commands.specs.Output.{output};
+ghost use Rattle.mta_output.specs.Output.{output};
 ghost use Rattle.mta_commands.specs.Submit.{HasAcknowledged, HasSettled, HasStored, HasWorked};
 
 use crate::ended::{Ended, refused};

@@ -8,8 +8,9 @@ use Rattle.std.specs.Prelude.{OnErr, OnOk, codes, is_err}
 use Rattle.mta_edge.specs.Causes.{HasCause}
 use Rattle.mta_edge.specs.Views.{SinkView}
 use Rattle.mta_edge.specs.declared.outside.Failed.{Failed}
-use Rattle.mta_follow_run.specs.Output.{HasPrinted, HasPut, Output, PrintsFront, output}
-use Rattle.mta_follow_run.specs.Output.{printed_cut, printed_whole}
+use Rattle.mta_output.specs.Output.{HasPrinted, Output, PrintsFront, output}
+use Rattle.mta_follow_run.specs.Output.{HasPut}
+use Rattle.mta_output.specs.Output.{cut as printed_cut, whole as printed_whole}
 use Rattle.mta_follow_run.specs.Stops.{kept_text, last_number, line_of, status_by, status_of}
 use Rattle.mta_follow_run.specs.declared.stop.Stop.{Stop}
 use Rattle.mta_follow_run.specs.declared.stop.Stop.TheVariants as Stops

@@ -17,7 +17,8 @@ use Rattle.mta_follow_run.specs.Opened.{HasSpoolCause, HasStandbyCause, IsSpool,
 use Rattle.mta_follow_run.specs.Opened.{SpoolLeft}
 use Rattle.mta_follow_run.specs.Outcome.{Follow, Handed, Push, followed, not_opened}
 use Rattle.mta_follow_run.specs.Outcome.{not_pushed, pull_no_link, pull_over, push_no_link, push_over, was_pushed}
-use Rattle.mta_follow_run.specs.Output.{HasPrinted, Output, OutputFailed, Prints, printed_cut, printed_whole}
+use Rattle.mta_output.specs.Output.{HasPrinted, Output, OutputFailed, Prints, cut as printed_cut}
+use Rattle.mta_output.specs.Output.{whole as printed_whole}
 use Rattle.mta_follow_run.specs.Pulling.{PullEnds, Pulls, ends_bad, ends_broken, ends_differs, ends_done, ends_failed}
 use Rattle.mta_follow_run.specs.Pulling.{ends_full, ends_more, ends_none, ends_short, ends_unsaid}
 use Rattle.mta_follow_run.specs.Pushing.{PushEnds, Pushes, push_bad, push_broken, push_done, push_short, push_undone}

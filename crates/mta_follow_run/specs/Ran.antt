@@ -16,7 +16,7 @@ use Rattle.mta_follow_run.specs.Copies.{Bring, HasFirst, IsCopy, IsKeptFrom}
 use Rattle.mta_follow_run.specs.Fronts.{IsFront}
 use Rattle.mta_follow_run.specs.Opened.{SpoolLeft}
 use Rattle.mta_follow_run.specs.Outcome.{DiskFailed, Follow, Handed, Push}
-use Rattle.mta_follow_run.specs.Output.{HasPrinted, Output, OutputFailed, Prints}
+use Rattle.mta_output.specs.Output.{HasPrinted, Output, OutputFailed, Prints}
 use Rattle.mta_follow_run.specs.Stops.{kept_text, line_of, pushed_text, status_by}
 use Rattle.mta_follow_run.specs.Taking.{IsNoRecord, IsRecord, StandsBehind}
 use Rattle.mta_follow_run.specs.Talks.{HasNoLink, HasServed, IsAtEnd, IsOver, LinkFailed, Talks, kept_units}

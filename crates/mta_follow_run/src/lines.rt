@@ -2,7 +2,8 @@
 
 ghost use Rattle.std.specs.Prelude.{◌≡◌, ◌≤◌, ◌++◌, codes};
 ghost use Rattle.std.specs.Fmt.{decimal};
-ghost use Rattle.mta_follow_run.specs.Output.{HasPrinted, HasPut, output};
+ghost use Rattle.mta_output.specs.Output.{HasPrinted, output};
+ghost use Rattle.mta_follow_run.specs.Output.{HasPut};
 ghost use Rattle.mta_follow_run.specs.Stops.{kept_text, last_number, line_of, pushed_text, status_by, status_of};
 
 use crate::stop::Stop;

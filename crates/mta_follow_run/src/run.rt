@@ -3,7 +3,7 @@
 
 ghost use Rattle.std.specs.Prelude.{[], map, string_bytes};
 ghost use Rattle.mta_follow_run.specs.Outcome.{Follow, Push, handed};
-ghost use Rattle.mta_follow_run.specs.Output.{output};
+ghost use Rattle.mta_output.specs.Output.{output};
 ghost use Rattle.mta_follow_run.specs.Ran.{HasRun, TellsAll};
 
 use crate::lines::{tell, tell_kept, tell_pushed};

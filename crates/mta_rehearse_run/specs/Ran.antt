@@ -11,7 +11,8 @@ use Rattle.mta_rehearse_run.specs.declared.stop.Stop.{Stop}
 use Rattle.mta_rehearse_run.specs.declared.walked.Walk.{Walk}
 use Rattle.mta_rehearse_run.specs.Agents.{agent_named, AreApart, IsFirstTwice}
 use Rattle.mta_rehearse_run.specs.Network.{network_of, AreTablesIn, IsDrawn}
-use Rattle.mta_rehearse_run.specs.Output.{Output, OutputFailed, Prints, HasClosed}
+use Rattle.mta_output.specs.Output.{Output, OutputFailed, Prints}
+use Rattle.mta_rehearse_run.specs.Output.{HasClosed}
 use Rattle.mta_rehearse_run.specs.Rehearsal.{ShowsAsked, Outcome}
 use Rattle.mta_rehearse_run.specs.Walks.{IsWalk}
 use Rattle.mta_rehearse_run.specs.WalkText.{status_of}

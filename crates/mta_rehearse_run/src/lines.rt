@@ -2,7 +2,8 @@
 
 ghost use Rattle.std.specs.Prelude.{◌≡◌, ◌≤◌, ◌++◌, ◌∷◌, [], IfOk, OnOk};
 ghost use Rattle.std.specs.Fmt.{decimal};
-ghost use Rattle.mta_rehearse_run.specs.Output.{HasTold, output};
+ghost use Rattle.mta_output.specs.Output.{output};
+ghost use Rattle.mta_rehearse_run.specs.Output.{HasTold};
 ghost use Rattle.mta_rehearse_run.specs.Stops.{kind_text, line_of, status_of};
 
 use crate::stop::Stop;

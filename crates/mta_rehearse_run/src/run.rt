@@ -2,7 +2,8 @@
 
 ghost use Rattle.std.specs.Prelude.{◌≡◌, ◌≤◌, map, string_bytes};
 ghost use Rattle.mta_rehearse_run.specs.Asked.{asked_of};
-ghost use Rattle.mta_rehearse_run.specs.Output.{HasPrinted, HasClosed, output};
+ghost use Rattle.mta_output.specs.Output.{HasPrinted, output};
+ghost use Rattle.mta_rehearse_run.specs.Output.{HasClosed};
 ghost use Rattle.mta_rehearse_run.specs.Ran.{HasRun, Tells, IsComplete};
 
 use crate::lines::tell;

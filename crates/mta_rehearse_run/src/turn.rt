@@ -12,7 +12,6 @@ use mta_ber::{Memory, Word};
 use mta_name_digest::Places;
 use mta_names::OrName;
 use mta_tables::{Hop, Tables};
-use std::alloc::Global;
 
 /// What becomes of a name at an agent.
 #[derive(Drop)]
@@ -23,7 +22,7 @@ pub enum Turn {
     Over(WalkEnd),
 }
 
-fn to_word(alloc: Global, agents: &[Tables], names: &Places, word: &Word) -> Result<Turn, Memory>
+fn to_word(agents: &[Tables], names: &Places, word: &Word) -> Result<Turn, Memory>
     requires index { IsIndex own_digest agents.now names.now }
     requires few { length agents.now ≤ 2 ^ 32 }
     ensures { IfOk result (λ t. t ≡ to_word agents.now word.now) }
@@ -31,37 +30,25 @@ fn to_word(alloc: Global, agents: &[Tables], names: &Places, word: &Word) -> Res
     match agent_named(agents, names, word.as_slice()) {
         Some(place) => Ok(Turn::On(place)),
         None => {
-            let unknown = word.copy(alloc)?;
+            let unknown = word.share()?;
             Ok(Turn::Over(WalkEnd::Unknown(unknown)))
         }
     }
 }
 
-fn to_peer(
-    alloc: Global,
-    agents: &[Tables],
-    names: &Places,
-    place: u32,
-    peer: u32,
-) -> Result<Turn, Memory>
+fn to_peer(agents: &[Tables], names: &Places, place: u32, peer: u32) -> Result<Turn, Memory>
     requires index { IsIndex own_digest agents.now names.now }
     requires few { length agents.now ≤ 2 ^ 32 }
     ensures { IfOk result (λ t. t ≡ to_peer agents.now place peer) }
 {
     match peer_at(agents, place, peer) {
-        Some(peer) => to_word(alloc, agents, names, &peer.name),
+        Some(peer) => to_word(agents, names, &peer.name),
         None => Ok(Turn::Over(WalkEnd::NoRoute)),
     }
 }
 
 /// What becomes of the name at the agent of this place.
-pub fn turn_of(
-    alloc: Global,
-    agents: &[Tables],
-    names: &Places,
-    name: &OrName,
-    place: u32,
-) -> Result<Turn, Memory>
+pub fn turn_of(agents: &[Tables], names: &Places, name: &OrName, place: u32) -> Result<Turn, Memory>
     requires index { IsIndex own_digest agents.now names.now }
     requires few { length agents.now ≤ 2 ^ 32 }
     ensures { IfOk result (λ t. t ≡ turn_of agents.now name.now place) }
@@ -70,6 +57,6 @@ pub fn turn_of(
         Hop::Local(mailbox) => Ok(Turn::Over(WalkEnd::Mailbox(mailbox))),
         Hop::List(list) => Ok(Turn::Over(WalkEnd::List(list))),
         Hop::None => Ok(Turn::Over(WalkEnd::NoRoute)),
-        Hop::Peer(peer) => to_peer(alloc, agents, names, place, peer),
+        Hop::Peer(peer) => to_peer(agents, names, place, peer),
     }
 }

@@ -44,7 +44,7 @@ pub fn walk_from(
     walked.push(start)?;
     let mut last = start;
     'walking: loop {
-        let turn = turn_of(alloc, agents, &names, name, last)?;
+        let turn = turn_of(agents, &names, name, last)?;
         match closed(walked.as_slice(), turn) {
             Turn::Over(end) => {
                 return Ok(Walk {

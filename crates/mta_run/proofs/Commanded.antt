@@ -22,7 +22,7 @@ use Rattle.mta_commands.specs.Command.{HasEnded, NoneWorked}
 use Rattle.mta_commands.specs.DiskLeft.{uncalled}
 use Rattle.mta_commands.specs.Handed.{handed}
 use Rattle.mta_commands.specs.Inputs.{longest_tables}
-use Rattle.mta_commands.specs.Output.{Output}
+use Rattle.mta_output.specs.Output.{Output}
 use Rattle.mta_run.specs.Runs.{HasCommanded, sessions_in}
 use Rattle.mta_run.specs.Served.{HasServed, StationsLeft, Untouched}
 use Rattle.mta_commands.specs.Words.{are_stations_for, IsSaid, Serves, words_with}

@@ -13,7 +13,8 @@ use Rattle.mta_commands.specs.Command.{HasEnded, NoneWorked}
 use Rattle.mta_commands.specs.DiskLeft.{uncalled}
 use Rattle.mta_commands.specs.Handed.{handed}
 use Rattle.mta_commands.specs.Inputs.{longest_tables}
-use Rattle.mta_commands.specs.Output.{Output, HasShown}
+use Rattle.mta_output.specs.Output.{Output}
+use Rattle.mta_commands.specs.Output.{HasShown}
 use Rattle.mta_commands.specs.Words.{IsSaid}
 use Rattle.mta_run.specs.Drilling.{HasPrintedDrill, IsDrilledAs, IsDrillStop}
 use Rattle.mta_commands.proofs.DiskStands.{before_alone, left_alone}

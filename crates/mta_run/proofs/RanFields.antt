@@ -17,7 +17,8 @@ use Rattle.mta_words.specs.declared.words.Words.{Words}
 use Rattle.mta_words.specs.declared.words.Words.TheVariants as Say
 use Rattle.mta_commands.specs.Words.{ReadsTables, ReadsApdu, OpensDisk, Serves}
 use Rattle.mta_commands.specs.Handed.{Handed, ForFound, InputsRead}
-use Rattle.mta_commands.specs.Output.{Output, output, HasPrinted, whole, HasClosed, IsEnded}
+use Rattle.mta_output.specs.Output.{Output, output}
+use Rattle.mta_commands.specs.Output.{HasPrinted, whole, HasClosed, IsEnded}
 use Rattle.mta_commands.specs.DiskLeft.{Opening, opened}
 use Rattle.mta_commands.specs.Causes.{mailbox_named, IsText, of_submit, of_queue, of_serve, of_mailbox, of_decode}
 use Rattle.mta_commands.specs.Causes.{of_drill, Cause, memory}

@@ -30,7 +30,8 @@ use Rattle.mta_commands.specs.Command.{HasEnded, OnStations, SourcesLeft}
 use Rattle.mta_commands.specs.DiskLeft.{opened, Opening, refused, uncalled}
 use Rattle.mta_commands.specs.Handed.{ForOpened, ForTables, Handed, handed, InputsRead}
 use Rattle.mta_commands.specs.Inputs.{HasTables}
-use Rattle.mta_commands.specs.Output.{Output, stopped}
+use Rattle.mta_output.specs.Output.{Output}
+use Rattle.mta_commands.specs.Output.{stopped}
 use Rattle.mta_commands.specs.Provenance.{AreOfCall, AreOfRun}
 use Rattle.mta_run.specs.Served.{All_named, HasTablesFor, No_workers, Not_begun, Not_named, Not_read}
 use Rattle.mta_run.specs.Served.{Served, ServesSpool, StationsLeft, Untouched}

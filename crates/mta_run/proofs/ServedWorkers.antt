@@ -41,7 +41,7 @@ use Rattle.mta_commands.specs.Causes.{of_worker, PeersNamed, spent_serving}
 use Rattle.mta_commands.specs.Command.{HasEnded, IsSettled, SourcesLeft}
 use Rattle.mta_commands.specs.DiskLeft.{DiskLeft, opened}
 use Rattle.mta_commands.specs.Handed.{DiskFailed, ForDisk, ForOpened, ForTables, Handed, InputsRead}
-use Rattle.mta_commands.specs.Output.{Output}
+use Rattle.mta_output.specs.Output.{Output}
 use Rattle.mta_run.specs.Served.{AreLimits, ComesBehind, Had_failed, IsBaseOf, StationsLeft, Went_on}
 use Rattle.mta_run.specs.Served.{Worked}
 use Rattle.mta_commands.specs.Serving.{Decided, Had_ended, HasFinished, IsFinishStop, IsOutcome, IsOwnFull}

@@ -12,7 +12,7 @@ use Rattle.mta_stations.specs.declared.end.WorkerEnd.{WorkerEnd}
 use Rattle.mta_worker.specs.Wholes.{AreWorkers}
 use Rattle.mta_commands.specs.declared.stop.Stop.{Stop}
 use Rattle.mta_commands.specs.declared.stop.Stop.TheVariants as Stops
-use Rattle.mta_commands.specs.Output.{Output}
+use Rattle.mta_output.specs.Output.{Output}
 use Rattle.mta_run.specs.Served.{AreLimits, No_workers, Not_begun, Served, ServesSpool}
 use Rattle.mta_commands.specs.Serving.{HasBegun, HasFinished}
 use Rattle.mta_commands.specs.Submit.{stop_of_step}

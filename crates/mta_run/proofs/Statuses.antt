@@ -21,7 +21,8 @@ use Rattle.mta_commands.specs.declared.stop.Stop.{Stop}
 use Rattle.mta_commands.specs.Words.{AddsSteps, Drills, OpensDisk, roles_named, Serves}
 use Rattle.mta_commands.specs.Handed.{Handed}
 use Rattle.mta_commands.specs.Lines.{status_of}
-use Rattle.mta_commands.specs.Output.{Output, OutputFailed, IsEnded, done, told, cut_text, cut_line}
+use Rattle.mta_output.specs.Output.{Output, OutputFailed}
+use Rattle.mta_commands.specs.Output.{IsEnded, done, told, cut_text, cut_line}
 use Rattle.mta_commands.specs.DiskLeft.{Opening, uncalled}
 use Rattle.mta_commands.specs.Causes.{IsText, Cause, usage, lost, memory, source, tables, apdu, not_spool}
 use Rattle.mta_commands.specs.Causes.{full_opening, not_opened, disk, full, spent, no_mailbox, no_peer, full_serving}

@@ -19,7 +19,8 @@ use Rattle.mta_commands.specs.Handed.{Handed, ForTables, ForInput, ForDisk, ForF
 use Rattle.mta_commands.specs.Handed.{SourceFailed, DiskFailed, InputsRead}
 use Rattle.mta_commands.specs.Inputs.{IsReadAsTables}
 use Rattle.mta_commands.specs.Lines.{accepted_line}
-use Rattle.mta_commands.specs.Output.{Output, OutputFailed, IsEnded}
+use Rattle.mta_output.specs.Output.{Output, OutputFailed}
+use Rattle.mta_commands.specs.Output.{IsEnded}
 use Rattle.mta_commands.specs.DiskLeft.{Opening, uncalled, opened, DiskLeft}
 use Rattle.mta_commands.specs.Submit.{AreOwn, AreInTurn, accepts, IsAccepted}
 use Rattle.mta_commands.specs.Causes.{Cause, IsText, mailbox_named, PeersNamed}

@@ -7,7 +7,7 @@ use Rattle.mta_words.specs.declared.words.Words.TheVariants as Say
 use Rattle.mta_commands.specs.declared.stop.Stop.{Stop}
 use Rattle.mta_commands.specs.Command.{HasEnded}
 use Rattle.mta_commands.specs.Handed.{handed}
-use Rattle.mta_commands.specs.Output.{Output}
+use Rattle.mta_output.specs.Output.{Output}
 use Rattle.mta_run.specs.Ran.{Ran}
 use Rattle.mta_run.specs.Served.{StationsLeft}
 

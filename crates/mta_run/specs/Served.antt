@@ -29,7 +29,7 @@ use Rattle.mta_commands.specs.DiskLeft.{Opening, opened}
 use Rattle.mta_commands.specs.Command.{HasEnded}
 use Rattle.mta_commands.specs.Handed.{DiskFailed, ForDisk, ForOpened, Handed, handed}
 use Rattle.mta_commands.specs.Inputs.{HasTables}
-use Rattle.mta_commands.specs.Output.{Output}
+use Rattle.mta_output.specs.Output.{Output}
 use Rattle.mta_commands.specs.Provenance.{AreOfRun}
 use Rattle.mta_run.specs.Sessions.{SessionsServed}
 use Rattle.mta_commands.specs.Serving.{HasBegun, HasFinished}

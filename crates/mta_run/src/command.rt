@@ -11,7 +11,7 @@
 ghost use Rattle.std.specs.Prelude.{◌≡◌, ◌≤◌, Err, Some, map, string_bytes, true};
 ghost use Rattle.mta_stations.specs.Stations.{roles_in};
 ghost use Rattle.mta_commands.specs.Handed.{handed};
-ghost use Rattle.mta_commands.specs.Output.{output};
+ghost use Rattle.mta_output.specs.Output.{output};
 ghost use Rattle.mta_run.specs.Ran.{IsComplete, Tells};
 ghost use Rattle.mta_run.specs.Runs.{HasCommanded, HasRunWith};
 ghost use Rattle.mta_commands.specs.Words.{are_stations_for, IsSaid, words_with};

@@ -5,7 +5,7 @@
 //! memory is refused.
 
 ghost use Rattle.std.specs.Prelude.{◌≤◌};
-ghost use Rattle.mta_commands.specs.Output.{output};
+ghost use Rattle.mta_output.specs.Output.{output};
 ghost use Rattle.mta_run.specs.Drilling.{HasPrintedDrill, IsDrilledAs};
 
 use mta_ber::Octets;

@@ -15,7 +15,7 @@ ghost use Rattle.mta_spool.specs.Bases.{base_of, Keeps};
 ghost use Rattle.mta_spool.specs.Stands.{Stands};
 ghost use Rattle.mta_stations.specs.Stations.{roles_in};
 ghost use Rattle.mta_commands.specs.declared.stop.Stop.TheVariants as Stops;
-ghost use Rattle.mta_commands.specs.Output.{output};
+ghost use Rattle.mta_output.specs.Output.{output};
 ghost use Rattle.mta_run.specs.Served.{HasServed, HasTablesFor, ServesSpool};
 
 use mta_ber::Word;
@@ -121,10 +121,10 @@ where
 }
 
 // The stop for a peer that the tables do not name.
-fn stop_of_peer(alloc: Global, peer: &Word) -> Stop
+fn stop_of_peer(peer: &Word) -> Stop
     ensures { (result ≡ Stops.NoPeer peer.now) ⊎ (result ≡ Stops.Memory) }
 {
-    match peer.copy(alloc) {
+    match peer.share() {
         Ok(name) => Stop::NoPeer(name),
         Err(_) => Stop::Memory,
     }
@@ -143,7 +143,7 @@ fn tables_for<S: Station, I: Source>(
         Err(stop) => return Err(stop),
     };
     match unnamed_peer(&tables, stations) {
-        Some(peer) => Err(stop_of_peer(alloc, peer)),
+        Some(peer) => Err(stop_of_peer(peer)),
         None => Ok(tables),
     }
 }

@@ -3,7 +3,8 @@ use Rattle.std.proofs.Common.{◌≡◌, ℕ, List, [], Option, Some, None, Resu
 use Rattle.std.proofs.Common.{◌⊎◌}
 use Rattle.std.proofs.Common.{inl, inr, ⊎_elim, arith}
 use Rattle.mta_commands.specs.DiskLeft.{DiskLeft, Opening}
-use Rattle.mta_commands.specs.Output.{Output, OutputFailed, Tells, failed as line_failed, line, short as line_short}
+use Rattle.mta_output.specs.Output.{Output, OutputFailed}
+use Rattle.mta_commands.specs.Output.{Tells, failed as line_failed, line, short as line_short}
 use Rattle.mta_commands.specs.Output.{short_failed}
 use Rattle.mta_commands.specs.declared.stop.Stop.TheVariants as AgentStops
 use Rattle.mta_edge.specs.Views.{WhereTold}
@@ -24,7 +25,8 @@ use Rattle.mta_store_run.specs.Decided.{TellsAnswer}
 use Rattle.mta_store_run.specs.Outcome.{DiskFailed, GoesOnWith, HasRun, Handed, Outcome, acted}
 use Rattle.mta_store_run.specs.Outcome.{full_spool as is_full_spool}
 use Rattle.mta_store_run.specs.Outcome.{no_spool as is_no_spool, spool_failed, spool_short, unasked, unread}
-use Rattle.mta_store_run.specs.Output.{HasClosed, HasTold, cut, whole}
+use Rattle.mta_output.specs.Output.{cut, whole}
+use Rattle.mta_store_run.specs.Output.{HasClosed, HasTold}
 use Rattle.mta_store_run.specs.Ran.{CallsAsked, CallsFor, CallsOf, Fails, IsComplete, OpensWell}
 use Rattle.mta_store_run.specs.Ran.{PrintsAnswer}
 use Rattle.mta_store_run.specs.Ran.{TellsStatus, answers, full_spool, no_marks, no_spool}

@@ -2,7 +2,7 @@
 use Rattle.std.specs.Prelude.{◌≡◌, ◌⊎◌, ℕ, List, [], Option, Some, None, Result, Err}
 use Rattle.mta_commands.specs.DiskLeft.{DiskLeft, Opening, opened, refused, uncalled}
 use Rattle.mta_commands.specs.Images.{IsSafeBefore}
-use Rattle.mta_commands.specs.Output.{Output}
+use Rattle.mta_output.specs.Output.{Output}
 use Rattle.mta_commands.specs.declared.stop.Stop.TheVariants as AgentStops
 use Rattle.mta_edge.specs.Causes.{Rose}
 use Rattle.mta_edge.specs.Views.{DiskView, WhereTold}

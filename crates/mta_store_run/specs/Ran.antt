@@ -1,6 +1,6 @@
 -- What the status of a run tells.
 use Rattle.std.specs.Prelude.{◌≡◌, ◌⊎◌, ℕ, List, [], Option, Some, None}
-use Rattle.mta_commands.specs.Output.{Output, OutputFailed, Prints}
+use Rattle.mta_output.specs.Output.{Output, OutputFailed, Prints}
 use Rattle.mta_edge.specs.Views.{WhereTold}
 use Rattle.mta_histories.specs.History.{after}
 use Rattle.mta_images.specs.Image.{NoSpoolAt}

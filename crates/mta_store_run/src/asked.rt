@@ -63,7 +63,7 @@ fn mailbox_of(alloc: Global, word: &[u8]) -> Result<Option<Word>, Memory>
         return Ok(None);
     }
     let octets = Octets::from_slice(alloc, word)?;
-    Ok(Word::from_octets(octets))
+    Word::from_octets(alloc, octets)
 }
 
 fn list_of(mailbox: Option<Word>) -> Option<Asked>

@@ -58,10 +58,10 @@ fn item_text(alloc: Global, item: Option<&Item>) -> Result<Octets, Memory>
 }
 
 // A mark of this entry.
-fn mark_of(alloc: Global, kind: MarkKind, mailbox: &Word, number: u32) -> Result<Mark, Memory>
+fn mark_of(kind: MarkKind, mailbox: &Word, number: u32) -> Result<Mark, Memory>
     ensures { IfOk result (λ m. m ≡ mark_of kind mailbox.now number) }
 {
-    let mailbox = mailbox.copy(alloc)?;
+    let mailbox = mailbox.share()?;
     Ok(Mark {
         kind,
         mailbox,
@@ -70,17 +70,12 @@ fn mark_of(alloc: Global, kind: MarkKind, mailbox: &Word, number: u32) -> Result
 }
 
 // The mark that is made when an entry is fetched, if one is.
-fn mark_to_fetch(
-    alloc: Global,
-    mailbox: &Word,
-    number: u32,
-    standing: Standing,
-) -> Result<Option<Mark>, Stop>
+fn mark_to_fetch(mailbox: &Word, number: u32, standing: Standing) -> Result<Option<Mark>, Stop>
     ensures { IsMarkToFetch mailbox.now number standing result }
 {
     match standing {
         Standing::New => {
-            let mark = mark_of(alloc, MarkKind::Fetched, mailbox, number)?;
+            let mark = mark_of(MarkKind::Fetched, mailbox, number)?;
             Ok(Some(mark))
         }
         Standing::Fetched => Ok(None),
@@ -100,7 +95,7 @@ fn fetch_of<D: Disk + Drop, C: Clock + Drop>(
     ensures { IsAnswered (Ask.Fetch mailbox.now number)
         (fetched spool.now.current.machine.items mailbox.now number (Some line.now) standing) result }
 {
-    let mark = match mark_to_fetch(alloc, mailbox, number, standing) {
+    let mark = match mark_to_fetch(mailbox, number, standing) {
         Ok(mark) => mark,
         Err(stop) => return Err(stop),
     };
@@ -122,7 +117,7 @@ fn delete_of(
     match standing {
         Standing::New => Err(Stop::NotFetched { number }),
         Standing::Fetched => {
-            let mark = mark_of(alloc, MarkKind::Deleted, mailbox, number)?;
+            let mark = mark_of(MarkKind::Deleted, mailbox, number)?;
             Ok(Decision {
                 text: Octets::new(alloc),
                 mark: Some(mark),
@@ -217,10 +212,10 @@ fn mailbox_asked(asked: &Asked) -> &Word
 }
 
 // That no mailbox is named so.
-fn no_mailbox(alloc: Global, mailbox: &Word) -> Stop
+fn no_mailbox(mailbox: &Word) -> Stop
     ensures { IsNoMailbox mailbox.now result }
 {
-    match mailbox.copy(alloc) {
+    match mailbox.share() {
         Ok(mailbox) => Stop::Agent(AgentStop::NoMailbox(mailbox)),
         Err(_) => Stop::Agent(AgentStop::Memory),
     }
@@ -238,7 +233,7 @@ pub(crate) fn decide<D: Disk + Drop, C: Clock + Drop, E: Disk + Drop>(
 {
     let mailbox = mailbox_asked(asked);
     if !is_named(spool, mailbox.as_slice()) {
-        return Err(no_mailbox(alloc, mailbox));
+        return Err(no_mailbox(mailbox));
     }
     answer_in(alloc, asked, spool, marks)
 }

@@ -2,7 +2,7 @@
 //! in.
 
 ghost use Rattle.std.specs.Prelude.{◌≡◌, Some, map, string_bytes};
-ghost use Rattle.mta_commands.specs.Output.{output};
+ghost use Rattle.mta_output.specs.Output.{output};
 ghost use Rattle.mta_marks.specs.Opening.{HasOpened as HasOpenedMarks};
 ghost use Rattle.mta_journal.specs.Shown.{IsPlain};
 ghost use Rattle.mta_marks.specs.Marks.{IsMark};

@@ -1,6 +1,6 @@
 use Rattle.std.proofs.Common.{map, string_bytes, Global}
 use Rattle.mta_audit_run.specs.Outcome.{handed}
-use Rattle.mta_audit_run.specs.Output.{output}
+use Rattle.mta_output.specs.Output.{output}
 use Rattle.mta_audit_run.proofs.Statuses.{run_tells, run_complete}
 use Rattle.mta_audit_run.proofs.run.audit_run.Goals as goal
 

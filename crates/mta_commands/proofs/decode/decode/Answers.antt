@@ -1,5 +1,5 @@
 use Rattle.std.proofs.Common.{refl}
-use Rattle.mta_commands.specs.Output.{output}
+use Rattle.mta_output.specs.Output.{output}
 use Rattle.mta_commands.proofs.Decoded.{decoded, not_decoded}
 use Rattle.mta_commands.proofs.decode.decode.Goals as goal
 

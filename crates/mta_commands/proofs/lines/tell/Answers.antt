@@ -1,5 +1,5 @@
 use Rattle.mta_commands.specs.Lines.{line_of, status_of}
-use Rattle.mta_commands.specs.Output.{output}
+use Rattle.mta_output.specs.Output.{output}
 use Rattle.mta_commands.proofs.Told.{line_told}
 use Rattle.mta_commands.proofs.lines.tell.Goals as goal
 

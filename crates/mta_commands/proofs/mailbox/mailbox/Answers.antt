@@ -1,6 +1,6 @@
 use Rattle.std.proofs.Common.{refl}
 use Rattle.mta_words.specs.declared.words.Words.TheVariants as Say
-use Rattle.mta_commands.specs.Output.{output}
+use Rattle.mta_output.specs.Output.{output}
 use Rattle.mta_commands.proofs.ShownSpool.{shown_not_opened, mailbox_left}
 use Rattle.mta_commands.proofs.mailbox.mailbox.Goals as goal
 

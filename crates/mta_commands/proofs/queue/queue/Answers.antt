@@ -1,6 +1,6 @@
 use Rattle.std.proofs.Common.{refl}
 use Rattle.mta_words.specs.declared.words.Words.TheVariants as Say
-use Rattle.mta_commands.specs.Output.{output}
+use Rattle.mta_output.specs.Output.{output}
 use Rattle.mta_commands.proofs.ShownSpool.{shown_not_opened, queue_left}
 use Rattle.mta_commands.proofs.queue.queue.Goals as goal
 

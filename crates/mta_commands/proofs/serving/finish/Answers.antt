@@ -1,4 +1,4 @@
-use Rattle.mta_commands.specs.Output.{output}
+use Rattle.mta_output.specs.Output.{output}
 use Rattle.mta_commands.proofs.Finishing.{finished, settles_no_lane, unfinished}
 use Rattle.mta_commands.proofs.serving.finish.Goals as goal
 

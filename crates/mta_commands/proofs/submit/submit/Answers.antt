@@ -1,5 +1,5 @@
 use Rattle.std.proofs.Common.{refl, subst}
-use Rattle.mta_commands.specs.Output.{output}
+use Rattle.mta_output.specs.Output.{output}
 use Rattle.mta_commands.specs.Submit.{HasWorked}
 use Rattle.mta_commands.proofs.Submitted.{submit_early, submit_unopened, submit_opened, both_read}
 use Rattle.mta_commands.proofs.submit.submit.Goals as goal

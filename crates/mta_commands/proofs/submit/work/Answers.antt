@@ -1,6 +1,6 @@
 use Rattle.std.proofs.Common.{Err, refl, sym, subst}
 use Rattle.mta_commands.specs.declared.stop.Stop.{Stop}
-use Rattle.mta_commands.specs.Output.{output}
+use Rattle.mta_output.specs.Output.{output}
 use Rattle.mta_commands.specs.Submit.{HasWorked}
 use Rattle.mta_commands.proofs.Worked.{work_refused, work_unsaid, work_settled, work_unsettled, stored_no_lane}
 use Rattle.mta_commands.proofs.Worked.{settled_no_lane}

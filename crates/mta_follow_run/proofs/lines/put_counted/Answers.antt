@@ -1,7 +1,7 @@
 use Rattle.std.proofs.Common.{[], ◌∷◌}
 use Rattle.std.specs.Fmt.{decimal}
 use Rattle.std.proofs.lemmas.Result.{err_from_is_err_and}
-use Rattle.mta_follow_run.specs.Output.{output}
+use Rattle.mta_output.specs.Output.{output}
 use Rattle.mta_follow_run.specs.Stops.{last_number}
 use Rattle.mta_follow_run.proofs.Printing.{as_put, put_cut, put_then}
 use Rattle.mta_follow_run.proofs.lines.put_counted.Goals as goal

@@ -1,6 +1,6 @@
 use Rattle.std.proofs.Common.{◌++◌}
 use Rattle.std.specs.Prelude.{codes}
-use Rattle.mta_follow_run.specs.Output.{output}
+use Rattle.mta_output.specs.Output.{output}
 use Rattle.mta_follow_run.specs.Stops.{last_number}
 use Rattle.mta_follow_run.specs.declared.stop.Stop.TheVariants as Stops
 use Rattle.mta_follow_run.proofs.Printing.{as_put, at_line, line_disk, line_diverged, line_not_spool, line_usage}

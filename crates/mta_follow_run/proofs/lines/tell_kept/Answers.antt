@@ -1,5 +1,5 @@
 use Rattle.std.proofs.Common.{refl, sym, ◌∙◌}
-use Rattle.mta_follow_run.specs.Output.{output, printed_cut}
+use Rattle.mta_output.specs.Output.{output, cut as printed_cut}
 use Rattle.mta_follow_run.proofs.Printing.{kept_cut, kept_told}
 use Rattle.mta_follow_run.proofs.lines.tell_kept.Goals as goal
 

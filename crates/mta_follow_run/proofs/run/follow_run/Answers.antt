@@ -1,6 +1,6 @@
 use Rattle.std.proofs.Common.{Global, map, refl, string_bytes, subst}
 use Rattle.mta_follow_run.specs.Outcome.{handed}
-use Rattle.mta_follow_run.specs.Output.{output}
+use Rattle.mta_output.specs.Output.{output}
 use Rattle.mta_follow_run.specs.Ran.{run_pulled, run_pushed, run_unasked}
 use Rattle.mta_follow_run.specs.Words.{Says, asked_by}
 use Rattle.mta_follow_run.specs.declared.words.Command.{Command}

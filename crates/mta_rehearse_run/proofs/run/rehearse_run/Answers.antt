@@ -1,6 +1,6 @@
 use Rattle.std.proofs.Common.{map, string_bytes, Global}
 use Rattle.mta_rehearse_run.specs.Asked.{asked_of}
-use Rattle.mta_rehearse_run.specs.Output.{output}
+use Rattle.mta_output.specs.Output.{output}
 use Rattle.mta_rehearse_run.proofs.Told.{run_tells, run_complete}
 use Rattle.mta_rehearse_run.proofs.run.rehearse_run.Goals as goal
 

@@ -4,7 +4,7 @@ use Rattle.mta_words.specs.Words.{command_of}
 use Rattle.mta_commands.specs.declared.stop.Stop.TheVariants as Stops
 use Rattle.mta_commands.specs.Causes.{memory, usage}
 use Rattle.mta_commands.specs.DiskLeft.{uncalled}
-use Rattle.mta_commands.specs.Output.{output}
+use Rattle.mta_output.specs.Output.{output}
 use Rattle.mta_commands.specs.Words.{words_with}
 use Rattle.mta_run.proofs.Commanded.{early_ended, with_others_as}
 use Rattle.mta_run.proofs.OtherPeers.{said_by}

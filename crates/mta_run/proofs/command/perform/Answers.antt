@@ -1,7 +1,7 @@
 use Rattle.std.proofs.Common.{ap}
 use Rattle.mta_stations.specs.Stations.{roles_in}
 use Rattle.mta_words.specs.declared.words.Words.TheVariants as Say
-use Rattle.mta_commands.specs.Output.{output}
+use Rattle.mta_output.specs.Output.{output}
 use Rattle.mta_run.proofs.Commanded.{commanded_alone, commanded_serving}
 use Rattle.mta_run.proofs.Drilled.{drill_ended, some_messages}
 use Rattle.mta_commands.proofs.Decoded.{decode_ended}

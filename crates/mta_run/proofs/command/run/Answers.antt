@@ -2,7 +2,7 @@ use Rattle.std.proofs.Common.{map, string_bytes, Global}
 use Rattle.mta_stations.specs.Stations.{roles_in}
 use Rattle.mta_words.specs.Words.{command_of}
 use Rattle.mta_commands.specs.Handed.{handed}
-use Rattle.mta_commands.specs.Output.{output}
+use Rattle.mta_output.specs.Output.{output}
 use Rattle.mta_run.specs.Runs.{sessions_in}
 use Rattle.mta_run.specs.Served.{StationsLeft}
 use Rattle.mta_commands.specs.Words.{words_with}

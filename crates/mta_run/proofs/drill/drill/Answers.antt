@@ -1,4 +1,4 @@
-use Rattle.mta_commands.specs.Output.{output}
+use Rattle.mta_output.specs.Output.{output}
 use Rattle.mta_run.proofs.Drilled.{drill_printed}
 use Rattle.mta_run.proofs.drill.drill.Goals as goal
 

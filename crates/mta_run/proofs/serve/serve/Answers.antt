@@ -1,6 +1,6 @@
 use Rattle.std.proofs.Common.{Ok, Err, refl}
 use Rattle.mta_stations.specs.Stations.{roles_in}
-use Rattle.mta_commands.specs.Output.{output}
+use Rattle.mta_output.specs.Output.{output}
 use Rattle.mta_run.proofs.ServedAll.{lent_roles, not_open, not_tabled, serve_named, served_over}
 use Rattle.mta_run.proofs.serve.serve.Goals as goal
 

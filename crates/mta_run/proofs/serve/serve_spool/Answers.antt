@@ -1,5 +1,5 @@
 use Rattle.std.proofs.Common.{Vec, Global, ap, refl}
-use Rattle.mta_commands.specs.Output.{output}
+use Rattle.mta_output.specs.Output.{output}
 use Rattle.mta_run.specs.Served.{No_workers}
 use Rattle.mta_commands.proofs.Finishing.{begun_no_lane}
 use Rattle.mta_run.proofs.SpoolServed.{keeps_same, not_begun, served, unserved}

@@ -1,4 +1,4 @@
-use Rattle.mta_commands.specs.Output.{output}
+use Rattle.mta_output.specs.Output.{output}
 use Rattle.mta_commands.proofs.Told.{line_told}
 use Rattle.mta_store_run.specs.Stops.{line_of}
 use Rattle.mta_store_run.specs.declared.stop.Stop.TheVariants as Stops

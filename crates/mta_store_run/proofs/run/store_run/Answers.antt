@@ -1,5 +1,5 @@
 use Rattle.std.proofs.Common.{map, string_bytes, Global}
-use Rattle.mta_commands.specs.Output.{output}
+use Rattle.mta_output.specs.Output.{output}
 use Rattle.mta_store_run.specs.Asked.{asked_of}
 use Rattle.mta_store_run.specs.Outcome.{handed}
 use Rattle.mta_store_run.proofs.Statuses.{is_complete, tells_status}
