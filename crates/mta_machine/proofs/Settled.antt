@@ -1,9 +1,10 @@
 -- How many of the first recipients are not pending.
-use Rattle.std.proofs.Common.{◌≡◌, ◌≤◌, ◌<◌, ◌+◌, ℕ, zero, suc, false, List, length, Option, Some, None}
+use Rattle.std.proofs.Common.{◌≡◌, ◌≢◌, ◌≤◌, ◌<◌, ◌+◌, ◌++◌, ℕ, zero, suc, false, List, [], ◌∷◌, length, Option, Some}
+use Rattle.std.proofs.Common.{None}
 use Rattle.std.proofs.Common.{refl, sym, subst, ap, ◌∙◌, arith, inl, inr, set}
 use Rattle.std.specs.Prelude.{◌⊎◌, slice_get}
 use Rattle.std.proofs.lemmas.Bool.{cases_eq, ne_eqb}
-use Rattle.std.proofs.lemmas.List.{length-set}
+use Rattle.std.proofs.lemmas.List.{length-append, length-set}
 use Rattle.mta_records.specs.declared.state.Status.{Status}
 use Rattle.mta_machine.specs.Items.{AreSettled, has_status, is_pending, numbered, set_numbered}
 use Rattle.mta_machine.proofs.Numbered.{set-same, set-other, set-none}
@@ -30,6 +31,22 @@ module _ (statuses : List (Option Status)) (n : ℕ) (status : Option Status) (k
     within = omega (arith, below);
     none = λ r most. up_to r most (cases_eq r (suc n));
   }
+
+-- ---- one recipient
+
+pub one_known : (status : Option Status) → has_status is_pending (Some status) ≡ false → AreSettled (status ∷ []) 1
+one_known status not =
+    one_settled (status ∷ []) 0 status (none_known (status ∷ [])) refl not (omega arith)
+
+pub only_one : (rest : List (Option Status)) (status : Option Status) → length (rest ++ status ∷ []) ≡ 1
+    → status ∷ [] ≡ rest ++ status ∷ []
+only_one [] status one = refl
+only_one (x ∷ rest) status one = absurd (omega (arith, one, length-append rest (status ∷ [])))
+
+-- of another number nothing is put down
+pub set_one : (status now : Option Status) (place : ℕ) → place ≢ 0 → set (status ∷ []) place now ≡ status ∷ []
+set_one status now zero other = absurd (other refl)
+set_one status now (suc place) other = refl
 
 -- ---- where one has a status from now on
 
