@@ -1,12 +1,15 @@
 -- One call of `step`: what is done for what the last event calls for.
-use Rattle.std.specs.Prelude.{◌≡◌, ℕ, ◌-◌, ◌==◌, if◌then◌else◌, true, Some, None}
+use Rattle.std.specs.Prelude.{◌≡◌, ℕ, ◌-◌, ◌<◌, ◌==◌, if◌then◌else◌, true, Some, None}
 use Rattle.mta_units.specs.declared.unit.Unit.{Unit as AnyUnit}
 use Rattle.mta_units.specs.declared.unit.Unit.TheVariants as unit
 use Rattle.mta_lane_send.specs.Half.{is_sending}
+use Rattle.mta_lane_recv.specs.declared.state.Last.{Last}
+use Rattle.mta_lane_recv.specs.Half.{is_done}
 use Rattle.mta_transfer_rules.specs.Units.{LaneUnit}
 use Rattle.mta_transfer_rules.specs.Units as u
 use Rattle.mta_transfer_rules.specs.Sending as s
 use Rattle.mta_transfer_rules.specs.Receiving as r
+use Rattle.mta_transfer_rules.specs.Receiving.{RecvEnd, RecvStage}
 use Rattle.mta_session.specs.declared.ask.Ask.{Ask}
 use Rattle.mta_session.specs.declared.ask.Ask.TheVariants as ask
 use Rattle.mta_session.specs.declared.event.Event.{Event}
@@ -54,11 +57,22 @@ phase_behind _ = phase.Puts
 
 -- Going on: one thing that the rules of the two ends allow -----------------------------------
 
+-- A Sync came last, and the piece before it is not to be made durable any more. Behind End the activity is completed.
+abbrev pub IsSettled : RecvStage → Last → Type 0
+IsSettled (r.Synced k n piece) last = is_done last k ≡ true
+IsSettled (r.Ended k n piece) last = ⊥
+IsSettled _ last = Unit {0}
+
+-- The acknowledgement of a Sync is due: the Sync is not acknowledged yet, and nothing is to be made durable before.
+abbrev pub IsDueAck : RecvEnd → LaneUnit → Type 0
+IsDueAck e (u.SyncAck n) = (e.acked < n) × IsSettled e.stage e.last
+IsDueAck e _ = Unit {0}
+
 abbrev pub PutsFor : State → Part → AnyUnit → State → Type 0
 PutsFor t (Of_sender x) unit new =
     (t.ours ≡ true) × s.MayPut t.send x × (new ≡ record t { phase = phase_behind unit; send = s.put t.send x })
 PutsFor t (Of_receiver x) unit new =
-    r.MayPut t.recv x × (new ≡ record t { phase = phase_behind unit; recv = r.put t.recv x })
+    r.MayPut t.recv x × (new ≡ record t { phase = phase_behind unit; recv = r.put t.recv x }) × IsDueAck t.recv x
 PutsFor t Of_neither unit new = ⊥
 
 -- the piece goes along with the question

@@ -19,7 +19,7 @@ use Rattle.mta_session.specs.declared.phase.Phase.{Phase}
 use Rattle.mta_session.specs.declared.phase.Phase.TheVariants as phase
 use Rattle.mta_session.specs.declared.phase.Found.{Found}
 use Rattle.mta_session.specs.State.{State}
-use Rattle.mta_session.specs.Wanted.{Wanted, Aborts, Rejects, Ends, Puts, Asks, Reads, Goes_on, Excepts, Never, wanted}
+use Rattle.mta_session.specs.Wanted.{Wanted, Puts, Asks, Reads, Goes_on, Excepts, Never, wanted}
 use Rattle.mta_session.specs.Follows.{Of_sender, Of_receiver, Of_neither, part_of, part_of_abort, PutsFor, AsksFor}
 use Rattle.mta_session.specs.Follows.{GoesOn, ExceptsFor, Does, FollowsAt, counted}
 use Rattle.mta_session_laws.specs.Turning.{listed, Reaches, ReachesAt, SendGoes, EventsGo, CallsGo, with_put, with_unit}
@@ -135,49 +135,12 @@ on_goes e events t (action.Finish x) new g r = elim g [ ]
 
 except_goes : (e : SendEnd) (events : List SendEvent) (t : State) (f : Found) (a : Action) (new : State)
     → ExceptsFor t f a new → Reaches e events phase.Puts t.send → ReachesAt e (with_action events a) new.phase new.send
-except_goes e events t f (action.Ask (ask.BatchFor z)) new g r = elim g [ ]
-except_goes e events t f (action.Ask (ask.LaneOpen z1 z2 z3 z4 z5 z6)) new g r = elim g [ ]
-except_goes e events t f (action.Ask (ask.LaneAgree z1 z2 z3 z4)) new g r = elim g [ ]
-except_goes e events t f (action.Ask (ask.Bind z)) new g r = elim g [ ]
-except_goes e events t f (action.Ask (ask.Start z1 z2 z3)) new g r = elim g [ ]
-except_goes e events t f (action.Ask (ask.Confirm z1 z2 z3 z4)) new g r = elim g [ ]
-except_goes e events t f (action.Ask (ask.Ending z1 z2 z3)) new g r = elim g [ ]
-except_goes e events t f (action.Ask (ask.Sent z1 z2 z3)) new g r = elim g [ ]
-except_goes e events t f (action.Ask (ask.Dropped z1 z2 z3)) new g r = elim g [ ]
-except_goes e events t f (action.Ask (ask.Denied z1 z2 z3)) new g r = elim g [ ]
-except_goes e events t f (action.Ask (ask.Refused z1 z2 z3 z4)) new g r = elim g [ ]
-except_goes e events t f (action.Ask (ask.Secure z1 z2 z3 z4 z5)) new g r = elim g [ ]
-except_goes e events t f (action.Ask (ask.Complete z1 z2 z3 z4 z5)) new g r = elim g [ ]
 except_goes e events t f (action.Ask (ask.DropActivity z1 z2 z3)) new g r =
     subst (λ v. ReachesAt e events v.phase v.send) (sym g.3) (r.0, r.1, r.2, tt)
-except_goes e events t f (action.Ask (ask.CloseLane z1 z2)) new g r = elim g [ ]
-except_goes e events t f (action.Ask (ask.Resumed z)) new g r = elim g [ ]
-except_goes e events t f (action.Ask (ask.LaneOf z1 z2 z3)) new g r = elim g [ ]
-except_goes e events t f (action.Ask (ask.Recovery z)) new g r = elim g [ ]
-except_goes e events t f (action.Ask (ask.Receiving z)) new g r = elim g [ ]
-except_goes e events t f (action.Ask (ask.Values z)) new g r = elim g [ ]
-except_goes e events t f (action.Ask (ask.SpareLane z1 z2)) new g r = elim g [ ]
-except_goes e events t f (action.Ask (ask.Peer z)) new g r = elim g [ ]
-except_goes e events t f (action.Put (unit.Open z)) new g r = elim g [ ]
-except_goes e events t f (action.Put (unit.Accept z1 z2 z3)) new g r = elim g [ ]
-except_goes e events t f (action.Put (unit.Reject z)) new g r = elim g [ ]
-except_goes e events t f (action.Put (unit.Start z)) new g r = elim g [ ]
-except_goes e events t f (action.Put (unit.Piece z)) new g r = elim g [ ]
-except_goes e events t f (action.Put (unit.Sync z)) new g r = elim g [ ]
-except_goes e events t f (action.Put (unit.SyncAck z)) new g r = elim g [ ]
-except_goes e events t f (action.Put (unit.End z)) new g r = elim g [ ]
-except_goes e events t f (action.Put (unit.EndAck z)) new g r = elim g [ ]
-except_goes e events t f (action.Put (unit.Resume z1 z2)) new g r = elim g [ ]
-except_goes e events t f (action.Put (unit.ResumeAck z1 z2)) new g r = elim g [ ]
-except_goes e events t f (action.Put (unit.Discard z)) new g r = elim g [ ]
-except_goes e events t f (action.Put (unit.DiscardAck z)) new g r = elim g [ ]
-except_goes e events t f (action.Put (unit.Please z)) new g r = elim g [ ]
-except_goes e events t f (action.Put unit.Give) new g r = elim g [ ]
+except_goes e events t f (action.Ask any) new g r = elim g [ ]
 except_goes e events t f (action.Put (unit.Exception z1 z2)) new g r =
     subst (λ v. ReachesAt e events v.phase v.send) (sym g.3) (r.0, r.1, r.2, tt)
-except_goes e events t f (action.Put (unit.Abort z)) new g r = elim g [ ]
-except_goes e events t f (action.Put unit.Close) new g r = elim g [ ]
-except_goes e events t f (action.Put unit.CloseAck) new g r = elim g [ ]
+except_goes e events t f (action.Put any) new g r = elim g [ ]
 except_goes e events t f any4 new g r = elim g [ ]
 
 pub does_goes : (e : SendEnd) (events : List SendEvent) (t : State) (w : Wanted) (a : Action) (new : State)

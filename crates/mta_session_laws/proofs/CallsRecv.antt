@@ -15,7 +15,7 @@ use Rattle.mta_session.specs.declared.event.Action.TheVariants as action
 use Rattle.mta_session.specs.declared.phase.Phase.TheVariants as phase
 use Rattle.mta_session.specs.declared.phase.Found.{Found}
 use Rattle.mta_session.specs.State.{State}
-use Rattle.mta_session.specs.Wanted.{Wanted, Aborts, Rejects, Ends, Puts, Asks, Reads, Goes_on, Excepts, Never, wanted}
+use Rattle.mta_session.specs.Wanted.{Wanted, Puts, Asks, Reads, Goes_on, Excepts, Never, wanted}
 use Rattle.mta_session.specs.Follows.{Of_receiver, Of_neither, part_of, part_of_abort, PutsFor, AsksFor, GoesOn}
 use Rattle.mta_session.specs.Follows.{ExceptsFor, Does, counted}
 use Rattle.mta_session.specs.Fits.{Fits, FitsAt}
@@ -161,48 +161,11 @@ exception_put e events t kind at_ new m q a =
 
 pub except_goes : (e : RecvEnd) (events : List RecvEvent) (t : State) (f : Found) (x : Action) (new : State)
     → ExceptsFor t f x new → Reaches e events phase.Puts t.recv → ReachesAt e (with_action events x) new.phase new.recv
-except_goes e events t f (action.Ask (ask.BatchFor z)) new g a = elim g [ ]
-except_goes e events t f (action.Ask (ask.LaneOpen z1 z2 z3 z4 z5 z6)) new g a = elim g [ ]
-except_goes e events t f (action.Ask (ask.LaneAgree z1 z2 z3 z4)) new g a = elim g [ ]
-except_goes e events t f (action.Ask (ask.Bind z)) new g a = elim g [ ]
-except_goes e events t f (action.Ask (ask.Start z1 z2 z3)) new g a = elim g [ ]
-except_goes e events t f (action.Ask (ask.Confirm z1 z2 z3 z4)) new g a = elim g [ ]
-except_goes e events t f (action.Ask (ask.Ending z1 z2 z3)) new g a = elim g [ ]
-except_goes e events t f (action.Ask (ask.Sent z1 z2 z3)) new g a = elim g [ ]
-except_goes e events t f (action.Ask (ask.Dropped z1 z2 z3)) new g a = elim g [ ]
-except_goes e events t f (action.Ask (ask.Denied z1 z2 z3)) new g a = elim g [ ]
-except_goes e events t f (action.Ask (ask.Refused z1 z2 z3 z4)) new g a = elim g [ ]
-except_goes e events t f (action.Ask (ask.Secure z1 z2 z3 z4 z5)) new g a = elim g [ ]
-except_goes e events t f (action.Ask (ask.Complete z1 z2 z3 z4 z5)) new g a = elim g [ ]
 except_goes e events t f (action.Ask (ask.DropActivity z1 z2 z3)) new g a =
     subst (λ v. ReachesAt e events v.phase v.recv) (sym g.3) (a.0, a.1)
-except_goes e events t f (action.Ask (ask.CloseLane z1 z2)) new g a = elim g [ ]
-except_goes e events t f (action.Ask (ask.Resumed z)) new g a = elim g [ ]
-except_goes e events t f (action.Ask (ask.LaneOf z1 z2 z3)) new g a = elim g [ ]
-except_goes e events t f (action.Ask (ask.Recovery z)) new g a = elim g [ ]
-except_goes e events t f (action.Ask (ask.Receiving z)) new g a = elim g [ ]
-except_goes e events t f (action.Ask (ask.Values z)) new g a = elim g [ ]
-except_goes e events t f (action.Ask (ask.SpareLane z1 z2)) new g a = elim g [ ]
-except_goes e events t f (action.Ask (ask.Peer z)) new g a = elim g [ ]
-except_goes e events t f (action.Put (unit.Open z)) new g a = elim g [ ]
-except_goes e events t f (action.Put (unit.Accept z1 z2 z3)) new g a = elim g [ ]
-except_goes e events t f (action.Put (unit.Reject z)) new g a = elim g [ ]
-except_goes e events t f (action.Put (unit.Start z)) new g a = elim g [ ]
-except_goes e events t f (action.Put (unit.Piece z)) new g a = elim g [ ]
-except_goes e events t f (action.Put (unit.Sync z)) new g a = elim g [ ]
-except_goes e events t f (action.Put (unit.SyncAck z)) new g a = elim g [ ]
-except_goes e events t f (action.Put (unit.End z)) new g a = elim g [ ]
-except_goes e events t f (action.Put (unit.EndAck z)) new g a = elim g [ ]
-except_goes e events t f (action.Put (unit.Resume z1 z2)) new g a = elim g [ ]
-except_goes e events t f (action.Put (unit.ResumeAck z1 z2)) new g a = elim g [ ]
-except_goes e events t f (action.Put (unit.Discard z)) new g a = elim g [ ]
-except_goes e events t f (action.Put (unit.DiscardAck z)) new g a = elim g [ ]
-except_goes e events t f (action.Put (unit.Please z)) new g a = elim g [ ]
-except_goes e events t f (action.Put unit.Give) new g a = elim g [ ]
+except_goes e events t f (action.Ask any) new g a = elim g [ ]
 except_goes e events t f (action.Put (unit.Exception z1 z2)) new g a = exception_put e events t z1 z2 new g.0 g.3 a
-except_goes e events t f (action.Put (unit.Abort z)) new g a = elim g [ ]
-except_goes e events t f (action.Put unit.Close) new g a = elim g [ ]
-except_goes e events t f (action.Put unit.CloseAck) new g a = elim g [ ]
+except_goes e events t f (action.Put any) new g a = elim g [ ]
 except_goes e events t f any4 new g a = elim g [ ]
 
 pub does_goes : (e : RecvEnd) (events : List RecvEvent) (t : State) (w : Wanted) (x : Action) (new : State)

@@ -30,7 +30,7 @@ use Rattle.mta_session.specs.declared.phase.Found.{Found}
 use Rattle.mta_session.specs.Receiving.{taken, is_free}
 use Rattle.mta_session.specs.Sending.{called, heard, is_discard_put}
 use Rattle.mta_session.specs.State.{State, is_initiator}
-use Rattle.mta_session.specs.Wanted.{Wanted, Aborts, Rejects, Ends, Puts, Asks, Reads, Goes_on, Excepts, Never, wanted}
+use Rattle.mta_session.specs.Wanted.{Wanted, Aborts, Rejects, Ends, Goes_on, Excepts, Never, wanted}
 use Rattle.mta_session.specs.Wanted.{wanted_of_go, wanted_of_unit, wanted_of_over, within, begins, is_refused_value}
 use Rattle.mta_session.specs.Wanted.{is_same_reference, on_values, on_accept, on_reject, on_close, on_abort, as_holder}
 use Rattle.mta_session.specs.Wanted.{makes_or, as_listener, takes, on_answer_by, goes_on_if}

@@ -1,6 +1,6 @@
 -- An open session stays open, or turns to its end; and what its list is then.
 use Rattle.std.proofs.Common.{◌≡◌, inl, inr, ℕ, ◌&&◌, ◌==◌, ◌-◌, not, nat_lt, if◌then◌else◌, Bool, true, false, Option}
-use Rattle.std.proofs.Common.{Some, None, Result, Ok, Err, List, [], ◌∷◌, ◌++◌, refl, sym, ap, subst, ◌∙◌, rules}
+use Rattle.std.proofs.Common.{Some, None, Result, Ok, Err, List, [], ◌∷◌, refl, sym, ap, subst, ◌∙◌, rules}
 use Rattle.std.specs.Prelude.{◌⊎◌}
 use Rattle.mta_units.specs.declared.unit.Unit.{Unit as AnyUnit}
 use Rattle.mta_units.specs.declared.unit.Unit.TheVariants as unit
@@ -22,7 +22,6 @@ use Rattle.mta_session.specs.declared.event.Action.{Action}
 use Rattle.mta_session.specs.declared.event.Action.TheVariants as action
 use Rattle.mta_session.specs.declared.event.Event.{Event}
 use Rattle.mta_session.specs.declared.event.Event.TheVariants as event
-use Rattle.mta_session.specs.declared.event.SessionEnd.{SessionEnd}
 use Rattle.mta_session.specs.declared.event.SessionEnd.TheVariants as end
 use Rattle.mta_session.specs.declared.phase.Found.{Found}
 use Rattle.mta_session.specs.declared.phase.OwnStep.{OwnStep}
@@ -40,10 +39,10 @@ use Rattle.mta_session.specs.Follows.{counted, Of_receiver, Of_neither, part_of,
 use Rattle.mta_session.specs.Follows.{GoesOn, ExceptsFor, Does}
 use Rattle.mta_session.specs.Fits.{FitsAt, AnswersAt}
 use Rattle.mta_session_laws.specs.Called.{heard_as, abort_unit}
-use Rattle.mta_session_laws.specs.Turning.{listed, MayFollow, made_of, made_by, abandoned, called_for, got_as}
-use Rattle.mta_session_laws.specs.Turning.{unless_refused, told_by, with_put, with_unit, with_action, is_open}
+use Rattle.mta_session_laws.specs.Turning.{listed, MayFollow, made_of, made_by, called_for, got_as}
+use Rattle.mta_session_laws.specs.Turning.{unless_refused, told_by, with_put, with_action, is_open}
 use Rattle.mta_session_laws.proofs.Events.{never}
-use Rattle.mta_session_laws.proofs.Turning.{given_up, kept_live, sending_live}
+use Rattle.mta_session_laws.proofs.Turning.{given_up}
 use Rattle.mta_session_laws.proofs.Opening.{LastFits, wanted_in}
 use Rattle.mta_session_laws.proofs.Linking.{denied_last, sent_last}
 

@@ -1,6 +1,6 @@
 -- Where an open session turns to its end: what the list of its receiving end is then.
-use Rattle.std.proofs.Common.{◌≡◌, ℕ, ◌&&◌, ◌==◌, ◌-◌, not, nat_lt, if◌then◌else◌, Bool, true, false, Option, Some}
-use Rattle.std.proofs.Common.{None, Result, Ok, Err, List, [], ◌∷◌, ◌++◌, refl, sym, ap, subst, ◌∙◌}
+use Rattle.std.proofs.Common.{◌≡◌, ℕ, ◌&&◌, ◌==◌, not, nat_lt, if◌then◌else◌, Bool, true, false, Option, Some}
+use Rattle.std.proofs.Common.{None, Result, Ok, Err, List, [], ◌∷◌, refl, sym, ap, subst, ◌∙◌}
 use Rattle.mta_units.specs.declared.unit.Unit.{Unit as AnyUnit}
 use Rattle.mta_units.specs.declared.unit.Unit.TheVariants as unit
 use Rattle.mta_lane_send.specs.Half.{is_idle, is_ending, last_of}
@@ -28,11 +28,11 @@ use Rattle.mta_session.specs.State.{State, is_initiator}
 use Rattle.mta_session.specs.Wanted.{Wanted, Aborts, Rejects, Ends, Puts, Asks, Reads, Goes_on, Excepts, Never}
 use Rattle.mta_session.specs.Wanted.{on_abort, on_close, takes, makes_or, goes_on_if, as_holder, as_listener, on_unit}
 use Rattle.mta_session.specs.Wanted.{on_step, is_still, is_given_up, goes_on_with, wanted_of_go, wanted_of_unit}
-use Rattle.mta_session.specs.Wanted.{wanted_of_reply, wanted_of_over, within}
-use Rattle.mta_session.specs.Follows.{Of_sender, Of_receiver, Of_neither, part_of, part_of_abort, counted, PutsFor}
+use Rattle.mta_session.specs.Wanted.{wanted_of_reply, wanted_of_over}
+use Rattle.mta_session.specs.Follows.{Of_receiver, Of_neither, part_of, part_of_abort, counted, PutsFor}
 use Rattle.mta_session.specs.Follows.{GoesOn, Does}
 use Rattle.mta_session.specs.Fits.{Fits}
-use Rattle.mta_session_laws.specs.Turning.{is_open, is_last_phase, called_for}
+use Rattle.mta_session_laws.specs.Turning.{is_open, called_for}
 use Rattle.mta_session_laws.specs.TurningRecv.{whole, Reaches, ReachesBy, ReachesAt, RecvGoes, taken_as, unless_refused}
 use Rattle.mta_session_laws.specs.TurningRecv.{told_by, with_put, with_unit, with_action}
 use Rattle.mta_session_laws.proofs.Events.{never}

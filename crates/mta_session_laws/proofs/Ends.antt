@@ -1,6 +1,6 @@
 -- A session that has turned to an end.
-use Rattle.std.proofs.Common.{◌≡◌, ◌⊎◌, inl, inr, ℕ, ◌-◌, ◌==◌, if◌then◌else◌, Bool, true, false, Option, Some, None}
-use Rattle.std.proofs.Common.{Result, Ok, Err, List, [], ◌∷◌, refl, sym, ap, subst, ◌∙◌}
+use Rattle.std.proofs.Common.{◌≡◌, ◌⊎◌, inl, inr, false, Option, Some, None}
+use Rattle.std.proofs.Common.{Result, Ok, Err, List, [], ◌∷◌, refl, sym, subst}
 use Rattle.mta_records.specs.declared.fault.StepFault.{StepFault}
 use Rattle.mta_session.specs.declared.ask.Reply.{Reply}
 use Rattle.mta_session.specs.declared.ask.Reply.TheVariants as reply
@@ -12,7 +12,7 @@ use Rattle.mta_session.specs.declared.event.SessionEnd.TheVariants as end
 use Rattle.mta_session.specs.declared.phase.Phase.{Phase}
 use Rattle.mta_session.specs.declared.phase.Phase.TheVariants as phase
 use Rattle.mta_session.specs.State.{State}
-use Rattle.mta_session.specs.Wanted.{Wanted, Aborts, Rejects, Ends, Puts, Asks, Reads, Goes_on, Excepts, Never, wanted}
+use Rattle.mta_session.specs.Wanted.{Wanted, Aborts, Ends, Asks, Never, wanted}
 use Rattle.mta_session.specs.Wanted.{wanted_of_go, wanted_of_unit, wanted_of_reply, wanted_of_over, within, on_denied}
 use Rattle.mta_session.specs.Wanted.{cut_short}
 use Rattle.mta_session.specs.Rank.{is_over}
@@ -20,7 +20,6 @@ use Rattle.mta_session.specs.Follows.{counted, Does, FollowsAt}
 use Rattle.mta_session.specs.Fits.{AnswersAt}
 use Rattle.mta_session_laws.specs.Causes.{end_of}
 use Rattle.mta_session_laws.specs.Runs.{Turn, IsTurn}
-use Rattle.mta_session_laws.specs.Whole.{AreCalls}
 use Rattle.mta_session_laws.specs.Order.{IsCutOff, SessionsEndSo}
 use Rattle.mta_session_laws.proofs.Wants.{never}
 

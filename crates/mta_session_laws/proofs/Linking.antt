@@ -1,6 +1,6 @@
 -- The link is answered and the session opened: what its list is, call by call.
-use Rattle.std.proofs.Common.{◌≡◌, ℕ, ◌&&◌, ◌||◌, ◌==◌, ◌-◌, not, if◌then◌else◌, Bool, true, false, Option, Some, None}
-use Rattle.std.proofs.Common.{Result, Ok, Err, List, [], ◌∷◌, ◌++◌, refl, sym, ap, subst, ◌∙◌, arith}
+use Rattle.std.proofs.Common.{◌≡◌, ℕ, ◌&&◌, ◌||◌, ◌==◌, not, Bool, true, false, Some, None}
+use Rattle.std.proofs.Common.{Ok, Err, List, [], ◌∷◌, refl, sym, ap, ◌∙◌, arith}
 use Rattle.std.proofs.lemmas.Bool.Decides.{nat_tests}
 use Rattle.std.specs.Str.{bytes_eq}
 use Rattle.mta_rtse.specs.declared.types.Answer.{Answer}
@@ -25,10 +25,10 @@ use Rattle.mta_session.specs.declared.event.Side.TheVariants as side
 use Rattle.mta_session.specs.declared.phase.Phase.TheVariants as phase
 use Rattle.mta_session.specs.Sending.{is_discard_put}
 use Rattle.mta_session.specs.State.{State}
-use Rattle.mta_session.specs.Wanted.{Aborts, Never, is_refused_value, is_same_reference, starts, on_values, on_accept}
+use Rattle.mta_session.specs.Wanted.{Aborts, Never, is_refused_value, is_same_reference, on_values, on_accept}
 use Rattle.mta_session.specs.Wanted.{on_reject, on_abort, on_answer_by, after_accept, wanted_of_unit}
 use Rattle.mta_session.specs.Follows.{counted}
-use Rattle.mta_session_laws.specs.Called.{heard_as, reject_unit, abort_unit}
+use Rattle.mta_session_laws.specs.Called.{reject_unit, abort_unit}
 use Rattle.mta_session_laws.specs.Turning.{kept, listed, called_for, got_as, told_by}
 use Rattle.mta_session_laws.specs.Whole.{half_of}
 use Rattle.mta_session_laws.proofs.Opening.{HasHalf, Reached, LastFits, Opens, if_opens, refused_opens, counted_opens}

@@ -1,49 +1,41 @@
 -- Before a session is open: what its list is, call by call.
-use Rattle.std.proofs.Common.{◌≡◌, inl, inr, ℕ, ◌&&◌, ◌||◌, ◌==◌, ◌-◌, not, if◌then◌else◌, Bool, true, false, Option}
-use Rattle.std.proofs.Common.{Some, None, Result, Ok, Err, List, [], ◌∷◌, ◌++◌, refl, sym, ap, subst, ◌∙◌, arith}
-use Rattle.std.proofs.lemmas.Bool.Decides.{nat_tests}
+use Rattle.std.proofs.Common.{◌≡◌, ℕ, ◌&&◌, ◌==◌, not, if◌then◌else◌, Bool, true, false, Option}
+use Rattle.std.proofs.Common.{Some, None, Result, Ok, Err, List, [], ◌∷◌, ◌++◌, refl}
 use Rattle.std.specs.Str.{bytes_eq}
 use Rattle.mta_ber.specs.declared.memory.Memory.{Memory as NoMemory}
 use Rattle.mta_rtse.specs.declared.types.Request.{Request}
 use Rattle.mta_rtse.specs.declared.types.Request.TheVariants as request
 use Rattle.mta_rtse.specs.declared.types.Answer.{Answer}
-use Rattle.mta_rtse.specs.declared.types.Answer.TheVariants as answer
 use Rattle.mta_units.specs.declared.unit.Unit.{Unit as AnyUnit}
 use Rattle.mta_units.specs.declared.unit.Unit.TheVariants as unit
 use Rattle.mta_units.specs.declared.unit.OpenUnit.{OpenUnit}
 use Rattle.mta_lane_send.specs.declared.state.SendState.{SendState}
 use Rattle.mta_lane_send.specs.declared.state.SendState.TheVariants as state
-use Rattle.mta_lane_send.specs.Half.{is_idle, is_ending, last_of}
+use Rattle.mta_lane_send.specs.Half.{is_idle}
 use Rattle.mta_transfer_rules.specs.Units.{LaneUnit}
 use Rattle.mta_transfer_rules.specs.Units as u
 use Rattle.mta_transfer_rules.specs.Sending as s
 use Rattle.mta_transfer_rules.specs.Sending.{SendEnd, SendEvent, SendStage, stage_on_link, stage_got, is_discarded}
 use Rattle.mta_records.specs.declared.fault.StepFault.{StepFault}
 use Rattle.mta_records.specs.declared.fault.StepFault.TheVariants as fault
-use Rattle.mta_session.specs.declared.ask.Ask.TheVariants as ask
 use Rattle.mta_session.specs.declared.ask.Reply.{Reply}
 use Rattle.mta_session.specs.declared.ask.Reply.TheVariants as reply
 use Rattle.mta_session.specs.declared.event.Event.{Event}
 use Rattle.mta_session.specs.declared.event.Event.TheVariants as event
-use Rattle.mta_session.specs.declared.event.InitiatorPlan.{InitiatorPlan}
 use Rattle.mta_session.specs.declared.event.SessionEnd.TheVariants as end
 use Rattle.mta_session.specs.declared.event.Side.{Side}
 use Rattle.mta_session.specs.declared.event.Side.TheVariants as side
 use Rattle.mta_session.specs.declared.peer.Peer.{Peer}
 use Rattle.mta_session.specs.declared.phase.Phase.{Phase}
 use Rattle.mta_session.specs.declared.phase.Phase.TheVariants as phase
-use Rattle.mta_session.specs.Sending.{is_discard_put}
-use Rattle.mta_session.specs.State.{State, in_phase, let_go, is_initiator, with_values}
+use Rattle.mta_session.specs.State.{State, is_initiator}
 use Rattle.mta_session.specs.Wanted.{Wanted, Aborts, Rejects, Ends, Puts, Asks, Reads, Goes_on, Excepts, Never, begins}
 use Rattle.mta_session.specs.Wanted.{on_request, on_peer, asks_lane, on_stands, puts_accept, with_lane, restored}
-use Rattle.mta_session.specs.Wanted.{with_received, on_new_lane, asks_spare, on_room, answers_link, is_refused_value}
-use Rattle.mta_session.specs.Wanted.{is_same_reference, starts, on_values, on_accept, closes_rejected, on_reject}
-use Rattle.mta_session.specs.Wanted.{on_abort, on_answer_by, after_accept, puts_please, asks_due, wanted_of_unit}
+use Rattle.mta_session.specs.Wanted.{with_received, on_new_lane, asks_spare, on_room, answers_link}
+use Rattle.mta_session.specs.Wanted.{wanted_of_unit}
 use Rattle.mta_session.specs.Wanted.{wanted_of_reply, wanted_of_go, wanted_of_over, within}
 use Rattle.mta_session.specs.Follows.{counted}
-use Rattle.mta_session.specs.Fits.{FitsAt}
-use Rattle.mta_session_laws.specs.Called.{heard_as, reject_unit, abort_unit}
-use Rattle.mta_session_laws.specs.Turning.{kept, listed, Reaches, called_for, got_as, unless_refused, told_by}
+use Rattle.mta_session_laws.specs.Turning.{Reaches, unless_refused}
 use Rattle.mta_session_laws.specs.Turning.{with_unit}
 use Rattle.mta_session_laws.proofs.Events.{never}
 use Rattle.mta_session_laws.specs.Whole.{told_state, told_octets, half_of}

@@ -1,8 +1,6 @@
 -- Before a session is open: what it has of the receiving half, call by call.
-use Rattle.std.proofs.Common.{◌≡◌, inl, inr, ℕ, ◌&&◌, ◌||◌, ◌==◌, ◌-◌, not, if◌then◌else◌, Bool, true, false, Option}
-use Rattle.std.proofs.Common.{Some, None, Result, Ok, Err, List, [], ◌∷◌, ◌++◌, refl, sym, ap, subst, ◌∙◌, append_assoc}
-use Rattle.std.specs.Prelude.{◌⊎◌}
-use Rattle.std.proofs.lemmas.List.{append-nil}
+use Rattle.std.proofs.Common.{◌≡◌, ℕ, ◌&&◌, ◌||◌, ◌==◌, not, if◌then◌else◌, Bool, true, false, Option}
+use Rattle.std.proofs.Common.{Some, None, Result, Ok, Err, List, [], ◌∷◌, refl, subst}
 use Rattle.std.specs.Str.{bytes_eq}
 use Rattle.mta_ber.specs.declared.memory.Memory.{Memory as NoMemory}
 use Rattle.mta_rtse.specs.declared.types.Request.{Request}
@@ -15,7 +13,6 @@ use Rattle.mta_units.specs.declared.unit.OpenUnit.{OpenUnit}
 use Rattle.mta_lane_send.specs.declared.state.SendState.{SendState}
 use Rattle.mta_lane_send.specs.Half.{is_idle, is_ending, last_of}
 use Rattle.mta_lane_recv.specs.declared.state.Last.{Last}
-use Rattle.mta_lane_recv.specs.declared.state.Last.TheVariants as last
 use Rattle.mta_transfer_rules.specs.Receiving as r
 use Rattle.mta_transfer_rules.specs.Receiving.{RecvEnd, RecvEvent}
 use Rattle.mta_records.specs.declared.fault.StepFault.{StepFault}
@@ -31,17 +28,16 @@ use Rattle.mta_session.specs.declared.peer.Peer.{Peer}
 use Rattle.mta_session.specs.declared.phase.Phase.{Phase}
 use Rattle.mta_session.specs.declared.phase.Phase.TheVariants as phase
 use Rattle.mta_session.specs.Sending.{is_discard_put}
-use Rattle.mta_session.specs.State.{State, is_initiator}
+use Rattle.mta_session.specs.State.{State}
 use Rattle.mta_session.specs.Wanted.{Wanted, Aborts, Rejects, Ends, Puts, Asks, Reads, Goes_on, Excepts, Never, begins}
 use Rattle.mta_session.specs.Wanted.{on_request, on_peer, asks_lane, on_stands, puts_accept, with_lane, restored}
 use Rattle.mta_session.specs.Wanted.{with_received, on_new_lane, asks_spare, on_room, answers_link, is_refused_value}
 use Rattle.mta_session.specs.Wanted.{is_same_reference, abort_of, on_values, on_accept, on_reject, on_abort}
 use Rattle.mta_session.specs.Wanted.{on_answer_by, after_accept, wanted_of_go, wanted_of_unit, wanted_of_reply}
-use Rattle.mta_session.specs.Wanted.{wanted_of_over, within}
+use Rattle.mta_session.specs.Wanted.{wanted_of_over}
 use Rattle.mta_session.specs.Follows.{Of_neither, part_of_abort, counted}
 use Rattle.mta_session_laws.specs.TurningRecv.{with_unit}
 use Rattle.mta_session_laws.specs.WholeRecv.{told_receiving, receiver_of}
-use Rattle.mta_session_laws.proofs.Events.{never}
 use Rattle.mta_session_laws.proofs.Opening.{wanted_in}
 
 -- What is left of the half before a session is open ---------------------------------------------

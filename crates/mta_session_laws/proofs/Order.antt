@@ -1,7 +1,6 @@
 -- The calls of a session, one after the other.
-use Rattle.std.proofs.Common.{◌≡◌, ◌⊎◌, inl, inr, ℕ, Bool, true, false, Option, Some, None, List, [], ◌∷◌, ◌++◌, refl}
+use Rattle.std.proofs.Common.{◌≡◌, inl, inr, ℕ, Bool, true, false, Option, Some, None, List, [], ◌∷◌, ◌++◌, refl}
 use Rattle.std.proofs.Common.{sym, ap, subst, ◌∙◌}
-use Rattle.mta_lane_send.specs.Half.{is_idle}
 use Rattle.mta_units.specs.declared.unit.Unit.{Unit as AnyUnit}
 use Rattle.mta_units.specs.declared.unit.Unit.TheVariants as unit
 use Rattle.mta_transfer_rules.specs.Units.{LaneUnit}
@@ -24,7 +23,7 @@ use Rattle.mta_session.specs.Fits.{FitsAt, AnswersAt, AnswersAsk, answers_put, i
 use Rattle.mta_session_laws.specs.Turning.{is_open}
 use Rattle.mta_session_laws.specs.Runs.{Turn, IsTurn}
 use Rattle.mta_session_laws.specs.Whole.{IsNew, Initiates, Responds, AreCalls}
-use Rattle.mta_session_laws.specs.Order.{takes_unit, TakesOwingNothing, AllTakeOwingNothing, NothingIsOwed, is_due}
+use Rattle.mta_session_laws.specs.Order.{takes_unit, TakesOwingNothing, AllTakeOwingNothing, NothingIsOwed}
 use Rattle.mta_session_laws.specs.Order.{DueAt, AllAnswer, AnswersAtOnce, looked_by, ends_turn, AllLook, LooksFirst}
 use Rattle.mta_session_laws.specs.Order.{HasOccasion, ClosesAt, AllHaveOccasion, LanesHaveOccasion, awaits}
 use Rattle.mta_session_laws.specs.Order.{ActionsAreAwaited}

@@ -1,6 +1,6 @@
 -- What units and other events call for, and what one call of a session does.
-use Rattle.std.proofs.Common.{◌≡◌, ◌≤◌, ◌⊎◌, inl, inr, ℕ, ◌+◌, ◌-◌, ◌&&◌, ◌||◌, ◌==◌, not, if◌then◌else◌, Bool, true}
-use Rattle.std.proofs.Common.{false, Option, Some, None, List, refl, sym, ap, subst, ◌∙◌}
+use Rattle.std.proofs.Common.{◌≡◌, inr, ℕ, ◌-◌, ◌&&◌, ◌||◌, ◌==◌, not, if◌then◌else◌, Bool, true}
+use Rattle.std.proofs.Common.{false, Option, Some, None, refl, sym, ap, subst, ◌∙◌}
 use Rattle.std.specs.Str.{bytes_eq}
 use Rattle.mta_lane_send.specs.Half.{is_idle, is_ending, last_of}
 use Rattle.mta_rtse.specs.declared.types.Answer.{Answer}
@@ -31,7 +31,7 @@ use Rattle.mta_session.specs.Sending.{called, heard, is_discard_put}
 use Rattle.mta_session.specs.State.{State, is_initiator}
 use Rattle.mta_session.specs.Rank.{is_over}
 use Rattle.mta_session.specs.Wanted.{Wanted, Aborts, Rejects, Ends, Puts, Asks, Reads, Goes_on, Excepts, Never, wanted}
-use Rattle.mta_session.specs.Wanted.{wanted_of_go, wanted_of_unit, wanted_of_over, within, begins, is_refused_value}
+use Rattle.mta_session.specs.Wanted.{wanted_of_go, wanted_of_unit, wanted_of_over, begins, is_refused_value}
 use Rattle.mta_session.specs.Wanted.{is_same_reference, ask_of, on_values, on_accept, on_reject, on_close, on_abort}
 use Rattle.mta_session.specs.Wanted.{as_holder, makes_or, as_listener, takes, on_answer_by, goes_on_if}
 use Rattle.mta_session.specs.Follows.{Of_receiver, Of_neither, part_of, part_of_abort, PutsFor, AsksFor, GoesOn}

@@ -1,5 +1,5 @@
 -- What an event calls for: which phases it leads to, what is put and asked, and which answers are due then.
-use Rattle.std.proofs.Common.{◌≡◌, ◌⊎◌, ℕ, if◌then◌else◌, Bool, true, false, Option, Some, None, Ok, refl, sym, subst}
+use Rattle.std.proofs.Common.{◌≡◌, ◌⊎◌, ℕ, if◌then◌else◌, Bool, true, false, None, Ok, refl, sym}
 use Rattle.std.proofs.Common.{◌∙◌}
 use Rattle.mta_units.specs.declared.unit.Unit.{Unit as AnyUnit}
 use Rattle.mta_units.specs.declared.unit.Unit.TheVariants as unit

@@ -1,7 +1,6 @@
 -- The calls of a session, from the first to its end, as one list of its sending end.
-use Rattle.std.proofs.Common.{◌≡◌, inl, inr, ℕ, ◌==◌, if◌then◌else◌, Bool, true, false, not, Option, Some, None, Result}
+use Rattle.std.proofs.Common.{◌≡◌, inl, inr, ℕ, ◌==◌, if◌then◌else◌, Bool, true, false, Some, Result}
 use Rattle.std.proofs.Common.{Ok, Err, List, [], ◌∷◌, ◌++◌, refl, sym, ap, subst, ◌∙◌, append_assoc}
-use Rattle.std.specs.Prelude.{◌⊎◌}
 use Rattle.std.proofs.lemmas.List.{append-nil}
 use Rattle.mta_units.specs.declared.unit.Unit.{Unit as AnyUnit}
 use Rattle.mta_units.specs.declared.unit.Unit.TheVariants as unit
@@ -26,12 +25,12 @@ use Rattle.mta_session.specs.declared.phase.Phase.{Phase}
 use Rattle.mta_session.specs.declared.phase.Phase.TheVariants as phase
 use Rattle.mta_session.specs.State.{State}
 use Rattle.mta_session.specs.Wanted.{Wanted, Aborts, Rejects, Ends, Puts, Asks, Reads, Goes_on, Excepts, Never, wanted}
-use Rattle.mta_session.specs.Wanted.{closed, on_closed, on_denied, within, wanted_of_go, wanted_of_unit}
+use Rattle.mta_session.specs.Wanted.{closed, on_closed, on_denied, wanted_of_go, wanted_of_unit}
 use Rattle.mta_session.specs.Wanted.{wanted_of_reply, wanted_of_over}
-use Rattle.mta_session.specs.Follows.{Part, Of_sender, Of_receiver, Of_neither, part_of, part_of_abort, counted, Does}
+use Rattle.mta_session.specs.Follows.{Part, Of_sender, part_of, counted, Does}
 use Rattle.mta_session.specs.Follows.{GoesOn, FollowsAt}
-use Rattle.mta_session.specs.Fits.{Fits, FitsAt, Answers, AnswersAt}
-use Rattle.mta_session_laws.specs.Turning.{listed, MayFollow, Reaches, ReachesBy, ReachesAt, CallsGo, denied_by}
+use Rattle.mta_session.specs.Fits.{FitsAt}
+use Rattle.mta_session_laws.specs.Turning.{listed, Reaches, ReachesBy, CallsGo, denied_by}
 use Rattle.mta_session_laws.specs.Turning.{last_by, told_by, with_put, with_unit, with_action, is_open, is_last_phase}
 use Rattle.mta_session_laws.specs.Runs.{Turn, IsTurn, sending_events_of, sending_events}
 use Rattle.mta_session_laws.specs.Whole.{IsNew, Initiates, Responds, AreCalls, told_state, told_octets, state_told}
@@ -39,7 +38,7 @@ use Rattle.mta_session_laws.specs.Whole.{octets_told, half_of, IsAt, SessionsSen
 use Rattle.mta_session_laws.proofs.Events.{never}
 use Rattle.mta_session_laws.proofs.Runs.{open_goes_on}
 use Rattle.mta_session_laws.proofs.Calls.{append_run, does_goes}
-use Rattle.mta_session_laws.proofs.Opening.{Blank, Before, HasHalf, Reached, LastFits, EndsAt, Stands, Opens, is_before}
+use Rattle.mta_session_laws.proofs.Opening.{Before, Reached, LastFits, EndsAt, Stands, Opens, is_before}
 use Rattle.mta_session_laws.proofs.Opening.{wanted_in, before_opens, receiving_opens, resuming_opens}
 use Rattle.mta_session_laws.proofs.Linking.{eq_of, opening_opens, answering_opens, agreeing_opens, accepting_opens}
 use Rattle.mta_session_laws.proofs.Ending.{TurnsTo, Turned, IsPutLast, Runs, goes_way, open_way, turned_end, got_runs}

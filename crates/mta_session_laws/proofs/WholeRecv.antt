@@ -1,7 +1,6 @@
 -- The calls of a session, from the first to its end, as one list of its receiving end.
-use Rattle.std.proofs.Common.{◌≡◌, inl, inr, ℕ, ◌==◌, ◌-◌, if◌then◌else◌, Bool, true, false, Option, Some, None, Result}
+use Rattle.std.proofs.Common.{◌≡◌, inl, inr, ℕ, ◌==◌, if◌then◌else◌, Bool, true, false, Some, Result}
 use Rattle.std.proofs.Common.{Ok, Err, List, [], ◌∷◌, ◌++◌, refl, sym, ap, subst, ◌∙◌, append_assoc}
-use Rattle.std.specs.Prelude.{◌⊎◌}
 use Rattle.std.proofs.lemmas.List.{append-nil}
 use Rattle.mta_units.specs.declared.unit.Unit.{Unit as AnyUnit}
 use Rattle.mta_units.specs.declared.unit.Unit.TheVariants as unit
@@ -17,7 +16,6 @@ use Rattle.mta_session.specs.declared.event.Action.{Action}
 use Rattle.mta_session.specs.declared.event.Action.TheVariants as action
 use Rattle.mta_session.specs.declared.event.Event.{Event}
 use Rattle.mta_session.specs.declared.event.Event.TheVariants as event
-use Rattle.mta_session.specs.declared.event.SessionEnd.{SessionEnd}
 use Rattle.mta_session.specs.declared.event.SessionEnd.TheVariants as end
 use Rattle.mta_session.specs.declared.event.Side.{Side}
 use Rattle.mta_session.specs.declared.event.Side.TheVariants as side
@@ -27,11 +25,11 @@ use Rattle.mta_session.specs.State.{State}
 use Rattle.mta_session.specs.Wanted.{Wanted, Aborts, Rejects, Ends, Puts, Asks, Reads, Goes_on, Excepts, Never, closed}
 use Rattle.mta_session.specs.Wanted.{on_closed, on_denied, wanted_of_go, wanted_of_unit, wanted_of_reply}
 use Rattle.mta_session.specs.Wanted.{wanted_of_over}
-use Rattle.mta_session.specs.Follows.{Part, Of_sender, Of_receiver, Of_neither, part_of, part_of_abort, counted, Does}
+use Rattle.mta_session.specs.Follows.{Part, Of_receiver, Of_neither, part_of, part_of_abort, counted, Does}
 use Rattle.mta_session.specs.Follows.{GoesOn, FollowsAt}
-use Rattle.mta_session.specs.Fits.{Fits, FitsAt}
+use Rattle.mta_session.specs.Fits.{Fits}
 use Rattle.mta_session_laws.specs.Turning.{is_open, is_last_phase}
-use Rattle.mta_session_laws.specs.TurningRecv.{whole, Reaches, ReachesBy, ReachesAt, RecvGoes, EventsGo, told_by}
+use Rattle.mta_session_laws.specs.TurningRecv.{whole, Reaches, ReachesBy, RecvGoes, EventsGo, told_by}
 use Rattle.mta_session_laws.specs.TurningRecv.{with_put, with_unit, with_action}
 use Rattle.mta_session_laws.specs.Runs.{Turn, IsTurn, AreReceiving, receiving_events_of}
 use Rattle.mta_session_laws.specs.Whole.{IsNew, Initiates, Responds, AreCalls}
@@ -42,7 +40,7 @@ use Rattle.mta_session_laws.proofs.Opening.{wanted_in}
 use Rattle.mta_session_laws.proofs.OpeningRecv.{links, link_of, Leaf, Leaves, Stage, at_begin, at_open_read, at_peer}
 use Rattle.mta_session_laws.proofs.OpeningRecv.{at_stands, at_new_lane, at_spare, at_room, at_old_lane, at_bind}
 use Rattle.mta_session_laws.proofs.OpeningRecv.{at_values, at_recovery, at_receiving, at_resumed, at_puts_open}
-use Rattle.mta_session_laws.proofs.OpeningRecv.{at_answer, at_agree, at_accept, told_end, told_end_is, opening_leaves}
+use Rattle.mta_session_laws.proofs.OpeningRecv.{at_answer, at_agree, at_accept, told_end_is, opening_leaves}
 use Rattle.mta_session_laws.proofs.OpeningRecv.{refusal_says_nothing}
 use Rattle.mta_session_laws.proofs.EndingRecv.{Runs, plain, goes_runs, wanted_runs}
 use Rattle.mta_session_laws.proofs.Ending.{TurnsTo, goes_way, open_way, IsPutLast}

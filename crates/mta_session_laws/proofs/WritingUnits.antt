@@ -29,7 +29,7 @@ use Rattle.mta_session.specs.declared.phase.Found.{Found}
 use Rattle.mta_session.specs.Receiving.{taken, is_free}
 use Rattle.mta_session.specs.Sending.{called, heard, is_discard_put}
 use Rattle.mta_session.specs.State.{State, is_initiator}
-use Rattle.mta_session.specs.Wanted.{Wanted, Aborts, Rejects, Ends, Puts, Asks, Reads, Goes_on, Excepts, Never, wanted}
+use Rattle.mta_session.specs.Wanted.{Wanted, Puts, Asks, Reads, Goes_on, Excepts, Never, wanted}
 use Rattle.mta_session.specs.Wanted.{wanted_of_go, wanted_of_unit, wanted_of_over, begins, on_values, is_refused_value}
 use Rattle.mta_session.specs.Wanted.{is_same_reference, on_accept, on_reject, on_close, on_abort, as_holder, makes_or}
 use Rattle.mta_session.specs.Wanted.{goes_on_if, as_listener, takes, on_answer_by}

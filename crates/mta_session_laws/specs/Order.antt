@@ -1,6 +1,6 @@
 -- What stands before what in the calls of a session: what is answered before a unit is taken, what was looked for
 -- before the turn is given up, and what came before a lane is closed, room is made, or the session ends.
-use Rattle.std.specs.Prelude.{◌≡◌, ◌⊎◌, ℕ, Bool, true, false, Option, Some, None, Result, Ok, Err, List}
+use Rattle.std.specs.Prelude.{◌≡◌, ◌⊎◌, Bool, true, false, Option, Some, None, Result, Ok, Err, List}
 use Rattle.std.specs.Prelude.{[], ◌∷◌, ◌++◌}
 use Rattle.mta_ber.specs.declared.memory.Memory.{Memory as NoMemory}
 use Rattle.mta_units.specs.declared.unit.Unit.{Unit as AnyUnit}

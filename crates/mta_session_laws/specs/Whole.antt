@@ -1,5 +1,5 @@
 -- What a session does from its first call to its end, as one list of events of the sending end of its lane.
-use Rattle.std.specs.Prelude.{◌≡◌, ℕ, Bool, true, false, Option, Some, None, Result, Ok, List, [], ◌∷◌}
+use Rattle.std.specs.Prelude.{◌≡◌, ℕ, true, false, Option, Some, None, Ok, List, [], ◌∷◌}
 use Rattle.mta_lane_send.specs.declared.state.SendState.{SendState}
 use Rattle.mta_lane_send.specs.declared.state.SendState.TheVariants as state
 use Rattle.mta_transfer_rules.specs.Units.{LaneUnit}
