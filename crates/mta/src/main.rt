@@ -60,7 +60,7 @@ fn station_of<'a>(
     let mut station = match word {
         StationWord::In { port } => TcpStation::listening(rt, port_of(*port), patience),
         StationWord::Out { peer, host, port } => {
-            let role = Role::Out(peer.copy(rt.alloc())?);
+            let role = Role::Out(peer.share()?);
             let host = host_of(rt.alloc(), host.as_slice())?;
             TcpStation::calling(rt, role, host, port_of(*port), patience)
         }

@@ -197,7 +197,7 @@ fn spent(
 }
 
 fn answer_to(alloc: Global, words: &Words) -> Result<(usize, usize)> {
-    let Some(peer) = Word::from_octets(Octets::from_slice(alloc, asked_for(words))?) else {
+    let Some(peer) = Word::from_octets(alloc, Octets::from_slice(alloc, asked_for(words))?)? else {
         return Err(anyhow!("no word"));
     };
     let spool = open(alloc, words)?;

@@ -98,7 +98,7 @@ fn relay(alloc: Global, spool: &mut MemSpool, peer: &Word) -> Result<u64> {
 }
 
 fn done_in(alloc: Global, spool: &mut MemSpool, words: &Words) -> Result<u64> {
-    let Some(peer) = Word::from_octets(Octets::from_slice(alloc, b"HUB")?) else {
+    let Some(peer) = Word::from_octets(alloc, Octets::from_slice(alloc, b"HUB")?)? else {
         return Err(anyhow!("no word"));
     };
     let settled = settle(spool)?;

@@ -89,9 +89,9 @@ fn long_element_of(bytes: &[u8], at: u32, depth: u8) -> Result<usize, Fault>
     Ok(size + count)
 }
 
-/// How many octets the element at the front has. Most headers have two octets: those are looked at in one step.
+/// How many octets the element at the front has, of an indefinite length behind a short header most often.
 #[cycle(rows)]
-fn element_of(bytes: &[u8], at: u32, depth: u8) -> Result<usize, Fault>
+fn open_element_of(bytes: &[u8], at: u32, depth: u8) -> Result<usize, Fault>
     requires room { at + length bytes.now < 2 ^ 32 }
     requires level { 1 ≤ depth }
     ensures exact { result ≡ element_size (run (17 - depth)) depth at bytes.now }
@@ -100,14 +100,28 @@ fn element_of(bytes: &[u8], at: u32, depth: u8) -> Result<usize, Fault>
     if depth > 16 {
         return long_element_of(bytes, at, depth);
     }
-    if let Some(size) = short_primitive(bytes) {
-        return Ok(size);
-    }
     if let Some(rest) = short_indefinite(bytes) {
         let count = run_of(rest, at + 2, depth, true)?;
         return Ok(2 + count);
     }
     long_element_of(bytes, at, depth)
+}
+
+/// How many octets the element at the front has. Most are primitive, and their headers have two octets: so small a
+/// function looks at those that it is taken into the loop over a row.
+#[cycle(rows)]
+fn element_of(bytes: &[u8], at: u32, depth: u8) -> Result<usize, Fault>
+    requires room { at + length bytes.now < 2 ^ 32 }
+    requires level { 1 ≤ depth }
+    ensures exact { result ≡ element_size (run (17 - depth)) depth at bytes.now }
+    ensures some { IfOk result (λ n. (0 < n) × (n ≤ length bytes.now)) }
+{
+    if depth <= 16
+        && let Some(size) = short_primitive(bytes)
+    {
+        return Ok(size);
+    }
+    open_element_of(bytes, at, depth)
 }
 
 /// How many octets the elements have that stand in a row inside the level `depth`, up to the end

@@ -141,7 +141,7 @@ fn accept_all(alloc: Global, spool: &mut Agent, before: u32, count: u32) -> Resu
 
 // The name by which the first agent calls the second.
 fn peer(alloc: Global) -> Result<Option<Word>, Memory> {
-    Ok(Word::from_octets(Octets::from_slice(alloc, PEER)?))
+    Word::from_octets(alloc, Octets::from_slice(alloc, PEER)?)
 }
 
 // Sessions until the lane is closed: one behind each break, and the last. How often the link was broken.

@@ -81,7 +81,7 @@ fn listener<D: Disk + Drop, C: Clock + Drop>(
     let Some(tables) = spool.tables() else {
         return Ok(None);
     };
-    let own = own_name(alloc, tables)?;
+    let own = own_name(tables)?;
     let mut session = Session::responder(alloc, own, LIMITS);
     let action = tell(&mut session, Event::Go)?;
     Ok(Some((Side::new(alloc, session, None), action)))

@@ -35,7 +35,8 @@ fn stop_of_words(error: &io::Error) -> Stop {
 
 // The role of a station that calls the standby.
 fn calling(rt: &HostRuntime) -> Result<Role, Memory> {
-    match Word::from_octets(Octets::from_slice(rt.alloc(), STANDBY)?) {
+    let alloc = rt.alloc();
+    match Word::from_octets(alloc, Octets::from_slice(alloc, STANDBY)?)? {
         Some(word) => Ok(Role::Out(word)),
         None => Ok(Role::In),
     }

@@ -136,7 +136,7 @@ impl Lane {
         ensures { IfOk result (λ lane. lane ≡ recorded) }
     {
         let mut recorded = recorded;
-        let peer = recorded.peer.copy(alloc)?;
+        let peer = recorded.peer.share()?;
         let reference = recorded.reference.copy(alloc)?;
         let pieces = Pieces::of(alloc, recorded.pieces.as_slice())?;
         let transfer = restored(alloc, mem::replace(&mut recorded.transfer, None))?;
@@ -166,7 +166,7 @@ impl Lane {
     pub fn record(&self, alloc: Global) -> Result<LaneRecord, Memory>
         ensures { IfOk result (λ lane. lane ≡ self.now) }
     {
-        let peer = self.peer.copy(alloc)?;
+        let peer = self.peer.share()?;
         let reference = self.reference.copy(alloc)?;
         let transfer = recorded(alloc, &self.transfer)?;
         let pieces = self.pieces.copies(alloc)?;

@@ -104,7 +104,7 @@ fn mark_with(
     ensures { IfOk result (λ o. o ≡ mark_with (Some kind) (Some (mailbox.now, number))) }
 {
     let octets = Octets::from_slice(alloc, mailbox)?;
-    match Word::from_octets(octets) {
+    match Word::from_octets(alloc, octets)? {
         Some(mailbox) => Ok(Some(Mark {
             kind,
             mailbox,

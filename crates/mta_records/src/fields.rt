@@ -180,7 +180,7 @@ pub fn word_of(alloc: Global, octets: &[u8]) -> Result<(Word, &[u8]), Short>
     if !is_word(text) {
         return Err(Short::Left(octets.len()));
     }
-    match Word::from_octets(Octets::from_slice(alloc, text)?) {
+    match Word::from_octets(alloc, Octets::from_slice(alloc, text)?)? {
         Some(word) => Ok((word, rest)),
         None => Err(Short::Left(octets.len())),
     }

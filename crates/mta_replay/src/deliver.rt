@@ -26,7 +26,6 @@ use std::alloc::Global;
 
 // The delivery of an item to the mailbox at a place of the tables.
 fn line_to<R: Rules>(
-    alloc: Global,
     rules: &R,
     place: u32,
     number: u32,
@@ -38,7 +37,7 @@ fn line_to<R: Rules>(
     match rules.mailbox_at(place) {
         None => Ok(None),
         Some(word) => {
-            let mailbox = word.copy(alloc)?;
+            let mailbox = word.share()?;
             Ok(Some(MailboxLine {
                 mailbox,
                 item: number,
@@ -91,7 +90,7 @@ fn delivery<R: Rules>(
         IsDeliveryOf (R.format rules.now) (R.text rules.now) next item.now recipient moment (Some told) }
     ensures { IfOk result (Prepares (state_of kept.now) (Steps.Deliver number recipient moment)) }
 {
-    let line = line_to(alloc, rules, told.place, number, moment)?;
+    let line = line_to(rules, told.place, number, moment)?;
     let made = Made {
         first: told.report,
         second: None,

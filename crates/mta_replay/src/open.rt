@@ -84,7 +84,7 @@ fn next_lane(
     ensures { IfOk result (λ lane. lane
         ≡ new_lane (kept.now.lanes.count + 1) role peer.now reference.now twa checkpoint window) }
 {
-    let peer = peer.copy(alloc)?;
+    let peer = peer.share()?;
     let reference = reference.copy(alloc)?;
     Ok(Lane::open(
         kept.lanes.count + 1,

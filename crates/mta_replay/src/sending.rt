@@ -19,7 +19,7 @@ pub(crate) fn sent_all(
 {
     let mut settlements = Vec::new(alloc);
     for recipient in recipients {
-        let peer = peer.copy(alloc)?;
+        let peer = peer.share()?;
         settlements.push(Settlement {
             recipient: *recipient,
             status: Status::Sent { moment, peer },

@@ -44,7 +44,7 @@ pub fn read_word(alloc: Global, part: &View) -> Result<Word, ReadFault>
     ensures { Reads result (word_in (view part.now)) }
 {
     let text = part.text(alloc, TextClass::Ia5, 1, 32)?;
-    match Word::from_octets(text.into_octets()) {
+    match Word::from_octets(alloc, text.into_octets())? {
         Some(word) => Ok(word),
         None => unreachable!(),
     }

@@ -55,13 +55,13 @@ impl Machine {
         let Side::Initiator(plan) = &self.side else {
             unreachable!();
         };
-        let name = plan.own.copy(self.alloc)?;
+        let name = plan.own.share()?;
         let reference = plan.reference.copy(self.alloc)?;
         let request = if plan.recovering {
             Request::Recover(plan.reference.copy(self.alloc)?)
         } else {
             Request::Bind {
-                name: plan.own.copy(self.alloc)?,
+                name: plan.own.share()?,
                 password: plan.send_password.copy(self.alloc)?,
             }
         };

@@ -52,7 +52,7 @@ impl Machine {
     {
         match unit {
             Unit::Open(open) => {
-                let name = open.name.copy(self.alloc)?;
+                let name = open.name.share()?;
                 self.opened = Some(open);
                 self.phase = Phase::AsksPeer;
                 Ok(Action::Ask(Ask::Peer(name)))
@@ -65,7 +65,7 @@ impl Machine {
     fn ask_lane_of(&self, asked: &OpenUnit, reference: &Reference) -> Result<Ask, Memory>
         ensures { IfOk result (λ a. a ≡ Ask.LaneOf role.Responder asked.now.name (Some reference.now)) }
     {
-        let peer = asked.name.copy(self.alloc)?;
+        let peer = asked.name.share()?;
         let reference = Some(reference.copy(self.alloc)?);
         Ok(Ask::LaneOf {
             role: LaneRole::Responder,
@@ -122,7 +122,7 @@ impl Machine {
         let (Some(open), Some(line)) = (&self.opened, &self.line) else {
             unreachable!();
         };
-        let peer = open.name.copy(self.alloc)?;
+        let peer = open.name.share()?;
         let reference = open.reference.copy(self.alloc)?;
         let ask = Ask::LaneOpen {
             role: LaneRole::Responder,
@@ -169,7 +169,7 @@ impl Machine {
         match &open.request {
             Request::Recover(reference) => Ok(Answer::Recover(reference.copy(self.alloc)?)),
             _ => Ok(Answer::Bind {
-                name: own.copy(self.alloc)?,
+                name: own.share()?,
                 password: line.send_password.copy(self.alloc)?,
             }),
         }

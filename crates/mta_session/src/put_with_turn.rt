@@ -24,12 +24,12 @@ impl Machine {
         ensures { IfOk result (λ w. w ≡ peer_of self.now.side self.now.opened) }
     {
         match &self.side {
-            Side::Initiator(plan) => plan.peer.copy(self.alloc),
+            Side::Initiator(plan) => plan.peer.share(),
             Side::Responder { own: _ } => {
                 let Some(open) = &self.opened else {
                     unreachable!();
                 };
-                open.name.copy(self.alloc)
+                open.name.share()
             }
         }
     }

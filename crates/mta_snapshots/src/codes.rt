@@ -8,7 +8,7 @@ use mta_machine::Status;
 use std::alloc::Global;
 
 // An equal status.
-fn copy_of(alloc: Global, status: &Status) -> Result<Status, Memory>
+fn copy_of(status: &Status) -> Result<Status, Memory>
     ensures { IfOk result (λ s. s ≡ status.now) }
 {
     match status {
@@ -17,7 +17,7 @@ fn copy_of(alloc: Global, status: &Status) -> Result<Status, Memory>
         Status::Expanded(moment) => Ok(Status::Expanded(*moment)),
         Status::Sent { moment, peer } => Ok(Status::Sent {
             moment: *moment,
-            peer: peer.copy(alloc)?,
+            peer: peer.share()?,
         }),
         Status::Reported {
             moment,
@@ -35,11 +35,11 @@ fn copy_of(alloc: Global, status: &Status) -> Result<Status, Memory>
 }
 
 // The status is the next code, where there is one.
-fn push_code(alloc: Global, codes: &mut Vec<Status>, status: &Option<Status>) -> Result<(), Memory>
+fn push_code(codes: &mut Vec<Status>, status: &Option<Status>) -> Result<(), Memory>
     ensures { OnOk result (codes.new.items ≡ codes.old.items ++ option_to_list status.now) }
 {
     if let Some(status) = status {
-        let copy = copy_of(alloc, status)?;
+        let copy = copy_of(status)?;
         codes.push(copy)?;
     }
     Ok(())
@@ -51,7 +51,7 @@ pub(crate) fn codes_of(alloc: Global, statuses: &[Option<Status>]) -> Result<Vec
 {
     let mut codes = Vec::with_capacity(alloc, statuses.len())?;
     for status in statuses {
-        push_code(alloc, &mut codes, status)?;
+        push_code(&mut codes, status)?;
     }
     Ok(codes)
 }

@@ -24,10 +24,10 @@ pub(crate) fn texts_of(alloc: Global, texts: &[Octets]) -> Result<Vec<Octets>, M
     Ok(copies)
 }
 
-fn line_of(alloc: Global, line: &MailboxLine) -> Result<MailboxLine, Memory>
+fn line_of(line: &MailboxLine) -> Result<MailboxLine, Memory>
     ensures { IfOk result (λ l. l ≡ line.now) }
 {
-    let mailbox = line.mailbox.copy(alloc)?;
+    let mailbox = line.mailbox.share()?;
     Ok(MailboxLine {
         mailbox,
         item: line.item,
@@ -41,7 +41,7 @@ pub(crate) fn lines_of(alloc: Global, lines: &[MailboxLine]) -> Result<Vec<Mailb
 {
     let mut copies = Vec::with_capacity(alloc, lines.len())?;
     for line in lines {
-        let copy = line_of(alloc, line)?;
+        let copy = line_of(line)?;
         copies.push(copy)?;
     }
     Ok(copies)

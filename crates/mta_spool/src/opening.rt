@@ -126,7 +126,7 @@ impl<D: Disk + Drop, C: Clock + Drop> Spool<D, C> {
         let Some(number) = last.checked_add(1) else {
             return Err(StepFault::Spent { last: last as u64 });
         };
-        let peer = peer.copy(self.alloc)?;
+        let peer = peer.share()?;
         self.make(Step::LaneOpen {
             role,
             peer,

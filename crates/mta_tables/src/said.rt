@@ -28,7 +28,7 @@ pub fn word_of(alloc: Global, text: &[u8]) -> Result<Word, LineFault>
         return Err(LineFault::Bad(LineKind::Word));
     }
     let octets = Octets::from_slice(alloc, text)?;
-    match Word::from_octets(octets) {
+    match Word::from_octets(alloc, octets)? {
         Some(word) => Ok(word),
         None => Err(LineFault::Bad(LineKind::Word)),
     }

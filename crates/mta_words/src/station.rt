@@ -40,7 +40,7 @@ fn out_to(alloc: Global, peer: &[u8], host: &[u8], port: u32) -> Result<Option<S
 {
     let octets = Octets::from_slice(alloc, peer)?;
     let host = Text::from_slice(alloc, host)?;
-    match Word::from_octets(octets) {
+    match Word::from_octets(alloc, octets)? {
         Some(peer) => Ok(Some(StationWord::Out { peer, host, port })),
         None => Ok(None),
     }

@@ -73,7 +73,7 @@ fn mailbox_named(alloc: Global, name: &[u8]) -> Result<Option<Words>, Memory>
         return Ok(None);
     }
     let octets = Octets::from_slice(alloc, name)?;
-    match Word::from_octets(octets) {
+    match Word::from_octets(alloc, octets)? {
         Some(word) => Ok(Some(Words::Mailbox(word))),
         None => Ok(None),
     }

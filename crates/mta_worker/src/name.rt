@@ -17,12 +17,12 @@ fn is_name(octets: &[u8]) -> bool
 }
 
 /// The own name, which may be shown to a peer.
-pub fn own_name(alloc: Global, tables: &Tables) -> Result<Word, Memory>
+pub fn own_name(tables: &Tables) -> Result<Word, Memory>
     ensures exact { IfOk result (λ w. w ≡ tables.now.own) }
     ensures shown { IfOk result IsName }
 {
     have_lines(tables);
-    tables.own().copy(alloc)
+    tables.own().share()
 }
 
 /// The name by which a lane was opened, or the own name where its reference has none.
@@ -32,10 +32,10 @@ pub fn name_shown(alloc: Global, tables: &Tables, reference: &Reference) -> Resu
 {
     let calling = reference.calling();
     if !is_name(calling) {
-        return own_name(alloc, tables);
+        return own_name(tables);
     }
-    match Word::from_octets(Octets::from_slice(alloc, calling)?) {
+    match Word::from_octets(alloc, Octets::from_slice(alloc, calling)?)? {
         Some(name) => Ok(name),
-        None => own_name(alloc, tables),
+        None => own_name(tables),
     }
 }

@@ -22,7 +22,7 @@ fn copy_of(alloc: Global, entry: &Entry) -> Result<Peer, Memory>
     ensures { IfOk result (λ p. p ≡ line_of entry.now) }
 {
     Ok(Peer {
-        name: entry.name.copy(alloc)?,
+        name: entry.name.share()?,
         send_password: entry.send_password.copy(alloc)?,
         expected_password: entry.expected_password.copy(alloc)?,
         twa: entry.twa,

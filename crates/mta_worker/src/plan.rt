@@ -74,7 +74,7 @@ pub fn plan_to_open(
     ensures exact { IfOk result (λ p. p ≡ plan_to_open tables.now line moment lane) }
     ensures fits { IsLine line → IfOk result IsPlan }
 {
-    let own = own_name(alloc, tables)?;
+    let own = own_name(tables)?;
     let reference = new_reference(alloc, &own, moment, lane)?;
     Ok(plan_of(own, line, reference, false))
 }

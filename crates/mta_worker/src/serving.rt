@@ -100,15 +100,12 @@ fn call<R: Wait, D: Disk + Drop, C: Clock + Drop, L: Link>(
 }
 
 // The agent's own name, in the tables recorded last; none where none are recorded.
-fn own_of<D: Disk + Drop, C: Clock + Drop>(
-    alloc: Global,
-    spool: &Spool<D, C>,
-) -> Result<Option<Word>, Memory>
+fn own_of<D: Disk + Drop, C: Clock + Drop>(spool: &Spool<D, C>) -> Result<Option<Word>, Memory>
     ensures own { IsOwnName spool.now.current result }
     ensures shown { IfOk result (λ o. IfSome o IsName) }
 {
     match spool.tables() {
-        Some(tables) => Ok(Some(own_name(alloc, tables)?)),
+        Some(tables) => Ok(Some(own_name(tables)?)),
         None => Ok(None),
     }
 }
@@ -116,7 +113,6 @@ fn own_of<D: Disk + Drop, C: Clock + Drop>(
 // The same, in a turn of the lock.
 fn own_in_turn<R: Wait, D: Disk + Drop, C: Clock + Drop>(
     rt: &R,
-    alloc: Global,
     shared: &Shared<Spool<D, C>>,
     pass: &mut Pass<Step>,
 ) -> Result<Option<Word>, Memory>
@@ -126,7 +122,7 @@ fn own_in_turn<R: Wait, D: Disk + Drop, C: Clock + Drop>(
     ensures shown { IfOk result (λ o. IfSome o IsName) }
 {
     let turn = shared.take(rt, pass);
-    let own = own_of(alloc, &turn.value);
+    let own = own_of(&turn.value);
     shared.give(pass, turn);
     own
 }
@@ -145,7 +141,7 @@ fn listen<R: Wait, D: Disk + Drop, C: Clock + Drop, L: Link>(
     ensures listened { HasListened D.model C.model L.model limits.now.units pass.old link.old link.new pass.new result }
     ensures later { L.model.faults link.old ≤ L.model.faults link.new }
 {
-    let own = match own_in_turn(rt, alloc, shared, pass) {
+    let own = match own_in_turn(rt, shared, pass) {
         Ok(Some(own)) => own,
         Ok(None) => return none_begun(Halt::NoPeer),
         Err(_) => return none_begun(Halt::Memory),

@@ -317,7 +317,7 @@ fn called(alloc: Global, fails: Fails) -> Result<MemStation, Fail> {
 
 // An initiator's station that calls silver.
 fn calling(alloc: Global, fails: Fails) -> Result<MemStation, Fail> {
-    let Some(peer) = Word::from_octets(Octets::from_vec(b"silver".to_vec(alloc)?)) else {
+    let Some(peer) = Word::from_octets(alloc, Octets::from_vec(b"silver".to_vec(alloc)?))? else {
         return Err(Fail::new("no name"));
     };
     station_of(alloc, Role::Out(peer), ACCEPTS.to_vec(alloc)?, fails)
