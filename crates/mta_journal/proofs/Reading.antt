@@ -5,12 +5,13 @@ use Rattle.std.specs.Int.{w32, from_be_bytes, to_be_bytes}
 use Rattle.std.proofs.lemmas.Bool.{cases_lt}
 use Rattle.std.proofs.lemmas.List.{drop-drop, drop-take, length-take, length-take-le, length-drop, take-append-drop}
 use Rattle.std.proofs.lemmas.List.{take-take, take_all}
+use Rattle.std.proofs.Math.ListN.{drop_of_length-le}
 use Rattle.mta_edge.specs.Views.{DiskView, DiskLaws}
 use Rattle.mta_edge.specs.Crashes.{Crash, Stays}
 use Rattle.mta_disk.specs.Records.{counted}
 use Rattle.mta_journal.specs.Faults.{IsFaulty}
 use Rattle.mta_journal.specs.Heads.{SaysHead, length_in}
-use Rattle.mta_journal.specs.Opening.{StandsAt, ClosedAt, BrokenAt}
+use Rattle.mta_journal.specs.Opening.{IsAhead, StandsAt, ClosedAt, BrokenAt}
 use Rattle.mta_journal.specs.declared.why.OpenWhy.{OpenWhy}
 use Rattle.mta_journal.specs.declared.read.Head.TheVariants.{Closed, Broken, Open}
 
@@ -19,21 +20,44 @@ first_is n [] some long = absurd (omega arith)
 first_is zero (x ∷ tail) some long = absurd (omega arith)
 first_is (suc n) (x ∷ tail) some long = refl
 
--- the first five octets of a piece of what is left
-pub head_in : (left : ℕ) (tail : List ℕ) → take 5 (take (min left 512) tail) ≡ take (min left 5) tail
-head_in left tail = ⊎_elim {C = take 5 (take (min left 512) tail) ≡ take (min left 5) tail}
+-- octets that were read ahead are no more than are left
+pub ahead_within : (gate : ℕ) (piece f : List ℕ) → IsAhead gate piece f → length piece ≤ length f - gate
+ahead_within gate piece f is =
+    omega (arith, ap length is, length-take (length piece) (drop gate f), length-drop gate f)
+
+-- the first five octets of what was read ahead
+pub head_ahead : (gate left : ℕ) (piece f : List ℕ) → IsAhead gate piece f → left ≡ length f - gate
+    → min left 5 ≤ length piece → take 5 piece ≡ take (min left 5) (drop gate f)
+head_ahead gate left piece f is left_is le =
+    ⊎_elim {C = take 5 piece ≡ take (min left 5) (drop gate f)}
     (λ (short : left < 5).
-    let same : min left 512 ≡ min left 5 = omega (arith, short) in
-    let few : length (take (min left 512) tail) ≤ 5 = omega (arith, short, length-take (min left 512) tail) in
-    take_all 5 (take (min left 512) tail) few ∙ ap (λ (n : ℕ). take n tail) same)
+    let within = ahead_within gate piece f is in
+    let same : length piece ≡ min left 5 = omega (arith, short, within, left_is, le) in
+    let few : length piece ≤ 5 = omega (arith, short, same) in
+    take_all 5 piece few ∙ is ∙ ap (λ (n : ℕ). take n (drop gate f)) same)
     (λ (long : 5 ≤ left).
     let same : 5 ≡ min left 5 = omega (arith, long) in
-    let more : 5 ≤ min left 512 = omega (arith, long) in
-    take-take 5 (min left 512) tail more ∙ ap (λ (n : ℕ). take n tail) same)
+    let more : 5 ≤ length piece = omega (arith, long, le) in
+    ap (take 5) is ∙ take-take 5 (length piece) (drop gate f) more ∙ ap (λ (n : ℕ). take n (drop gate f)) same)
     (cases_lt left 5)
 
+-- what is left behind a record that is passed
+pub passed : (gate n : ℕ) (piece f : List ℕ) → IsAhead gate piece f → IsAhead (gate + n) (drop n piece) f
+passed gate n piece f is = ⊎_elim {C = IsAhead (gate + n) (drop n piece) f}
+    (λ (short : length piece < n).
+    let none : drop n piece ≡ [] = drop_of_length-le piece (omega (arith, short)) in
+    subst (λ (xs : List ℕ). IsAhead (gate + n) xs f) (sym none) refl)
+    (λ (long : n ≤ length piece).
+    let split : n + (length piece - n) ≡ length piece = omega (arith, long) in
+    let size : length piece - n ≡ length (drop n piece) = omega (arith, length-drop n piece) in
+    ap (drop n) (is ∙ ap (λ (m : ℕ). take m (drop gate f)) (sym split))
+    ∙ drop-take n (length piece - n) (drop gate f)
+    ∙ ap (take (length piece - n)) (drop-drop n gate f)
+    ∙ ap (λ (m : ℕ). take m (drop (gate + n) f)) size)
+    (cases_lt (length piece) n)
+
 -- a body that a piece has
-pub body_there : (gate count : ℕ) (f piece : List ℕ) → piece ≡ take (length piece) (drop gate f) → count + 5
+pub body_there : (gate count : ℕ) (f piece : List ℕ) → IsAhead gate piece f → count + 5
     ≤ length piece
     → take count (drop 5 piece) ≡ take count (drop (gate + 5) f)
 body_there gate count f piece is le =

@@ -1,6 +1,6 @@
 -- What opening finds and leaves.
-use Rattle.std.specs.Prelude.{◌≡◌, ◌⊎◌, ◌+◌, ◌≤◌, ◌<◌, ℕ, List, [], ◌∷◌, ◌++◌, length, drop, Some, None, Option, Result}
-use Rattle.std.specs.Prelude.{IsErrOf}
+use Rattle.std.specs.Prelude.{◌≡◌, ◌⊎◌, ◌+◌, ◌≤◌, ◌<◌, ℕ, List, [], ◌∷◌, ◌++◌, length, drop, take, Some, None, Option}
+use Rattle.std.specs.Prelude.{Result, IsErrOf}
 use Rattle.mta_edge.specs.Causes.{Rose}
 use Rattle.mta_edge.specs.Crashes.{AtAnyMoment, Settled}
 use Rattle.mta_edge.specs.Views.{DiskView}
@@ -25,6 +25,10 @@ OnNotSpool result P = (at : ℕ) → IsErrOf result (Whys.NotSpool at) → P at
 pub record HasOpenCause {T : Type 0} (before now : ℕ) (result : Result T OpenWhy) : Type 0 where
   pub later : before ≤ now
   pub disk : IsErrOf result Whys.Disk → Rose before now
+
+-- these are octets of the image from an offset on
+abbrev pub IsAhead : ℕ → List ℕ → List ℕ → Type 0
+IsAhead at octets f = octets ≡ take (length octets) (drop at f)
 
 -- a body stands in its record behind the open gate at this offset, and a gate behind it
 pub record StandsAt (most gate : ℕ) (body f : List ℕ) : Type 0 where

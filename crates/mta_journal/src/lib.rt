@@ -3,6 +3,7 @@
 //! one that was put in the place of them all; no checksum is trusted.
 #![tactic(auto)]
 
+mod ahead;
 mod areas;
 mod journal;
 mod law;

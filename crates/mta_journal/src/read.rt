@@ -1,9 +1,9 @@
 //! Reading the records of an area.
 //!
 //! In come a disk, its size and the area's first gate; out go the bodies up to the first closed gate, or
-//! the place of the first open gate whose record passes the end or is too long. Of each record the first
-//! octets are read in one piece, with the body where it is short, and else the body behind its length, so
-//! no announced length is believed. The disk is only read.
+//! the place of the first open gate whose record passes the end or is too long. Short records are read
+//! ahead, many in one call; of a long one the first octets are read, and then the body behind its length,
+//! so no announced length is believed. The disk is only read.
 
 ghost use Rattle.std.specs.Prelude.{◌≡◌, ◌++◌, [], ◌∷◌, ◌+◌, ◌^◌, ◌≤◌, ◌<◌, length, take};
 ghost use Rattle.std.specs.Prelude.{drop, min, IfOk, OnOk, IfSome, IfNone};
@@ -12,8 +12,9 @@ ghost use Rattle.mta_edge.specs.Views.{WhereTold};
 ghost use Rattle.mta_journal.specs.Bodies.{magic, records, longest_first, AreWithin, HasRecords};
 ghost use Rattle.mta_journal.specs.Faults.{DiffersAt, FaultyAt};
 ghost use Rattle.mta_journal.specs.Heads.{SaysHead};
-ghost use Rattle.mta_journal.specs.Opening.{HasNotOne, HasOpenCause, OnNotSpool, StandsAt, ClosedAt, BrokenAt};
+ghost use Rattle.mta_journal.specs.Opening.{HasNotOne, HasOpenCause, OnNotSpool, IsAhead, StandsAt, ClosedAt, BrokenAt};
 
+use crate::ahead::Ahead;
 use crate::why::OpenWhy;
 use mta_disk::{ReadAtFault, read_at};
 use mta_edge::{Disk, Memory, Octets};
@@ -27,9 +28,6 @@ pub const LONGEST_BODY: u32 = 4_194_304;
 
 /// The most octets of the first body of an area.
 pub const LONGEST_FIRST: u32 = 268_435_456;
-
-// How many octets of a record are read at first.
-const PIECE: u64 = 512;
 
 /// What stands in an area: the octets used, and the bodies.
 #[derive(Drop)]
@@ -131,9 +129,8 @@ fn head_of(head: &[u8], left: u64, most: u32) -> Head
     Head::Open { length }
 }
 
-// The body of so many octets in the record behind the gate at `gate`, of which a piece was read: from the piece where
-// it
-// has the body, and else from the disk.
+// The body of so many octets in the record behind the gate at `gate`, of which a piece was read: from the piece
+// where it has the body, and else from the disk.
 fn body_of<D: Disk>(
     alloc: Global,
     disk: &mut D,
@@ -142,7 +139,7 @@ fn body_of<D: Disk>(
     count: u32,
 ) -> Result<Octets, OpenWhy>
     requires room { gate + count + 5 < 2 ^ 64 }
-    requires piece { WhereTold D.model disk.old (λ f. piece.now ≡ take (length piece.now) (drop gate f)) }
+    requires piece { WhereTold D.model disk.old (IsAhead gate piece.now) }
     ensures octets { IfOk result (λ o. WhereTold D.model disk.old (λ f. o ≡ take count (drop (gate + 5) f))) }
     ensures whole { IfOk result (λ o. length o ≡ count) }
     ensures short { OnNotSpool result (λ p. WhereTold D.model disk.old (λ f. length (drop (gate + 5) f) < count)) }
@@ -158,16 +155,56 @@ fn body_of<D: Disk>(
     read(alloc, disk, gate + 5, count, gate)
 }
 
+// Reads on from the gate at `gate`, behind which so many octets are left, where its first five are not read yet, or all
+// where fewer are left.
+fn read_ahead<D: Disk>(
+    alloc: Global,
+    disk: &mut D,
+    ahead: &mut Ahead,
+    gate: u64,
+    left: u64,
+) -> Result<(), OpenWhy>
+    requires size { WhereTold D.model disk.old (λ f. length f ≡ gate + left) }
+    requires ahead { WhereTold D.model disk.old (IsAhead gate ahead.old) }
+    requires few { length ahead.old ≤ left }
+    ensures ahead { OnOk result (WhereTold D.model disk.old (IsAhead gate ahead.new)) }
+    ensures few { OnOk result (length ahead.new ≤ left) }
+    ensures head { OnOk result (min left 5 ≤ length ahead.new) }
+    ensures short { OnNotSpool result (λ p. WhereTold D.model disk.old (λ f. ⊥)) }
+    ensures content { D.model.content disk.new ≡ D.model.content disk.old }
+    ensures cause { HasOpenCause (D.model.faults disk.old) (D.model.faults disk.new) result }
+    ensures crash { Crash D.model Stays disk.old disk.new }
+{
+    if left.min(5) <= ahead.as_slice().len() as u64 {
+        return Ok(());
+    }
+    let octets = read(
+        alloc,
+        disk,
+        gate,
+        left.min(ahead.count() as u64) as u32,
+        gate,
+    )?;
+    ahead.put(octets);
+    Ok(())
+}
+
 // The body in the record behind the gate at `gate`, or none where that gate is closed.
 fn read_body<D: Disk>(
     alloc: Global,
     disk: &mut D,
+    ahead: &mut Ahead,
     gate: u64,
     size: u64,
     most: u32,
 ) -> Result<Option<Octets>, OpenWhy>
     requires inside { gate < size }
     requires size { WhereTold D.model disk.old (λ f. size ≡ length f) }
+    requires ahead { WhereTold D.model disk.old (IsAhead gate ahead.old) }
+    requires few { gate + length ahead.old ≤ size }
+    ensures ahead { IfOk result (λ o. IfSome o (λ b. WhereTold D.model disk.old
+        (IsAhead (gate + length b + 5) ahead.new))) }
+    ensures few { IfOk result (λ o. IfSome o (λ b. gate + length b + 5 + length ahead.new ≤ size)) }
     ensures body { IfOk result (λ o. IfSome o (λ b. WhereTold D.model disk.old (StandsAt most gate b))) }
     ensures fits { IfOk result (λ o. IfSome o (λ b. (length b ≤ most) × (gate + length b + 5 < size))) }
     ensures closed { IfOk result (λ o. IfNone o (WhereTold D.model disk.old (ClosedAt gate))) }
@@ -177,13 +214,13 @@ fn read_body<D: Disk>(
     ensures crash { Crash D.model Stays disk.old disk.new }
 {
     let left = size - gate;
-    let piece = read(alloc, disk, gate, left.min(PIECE) as u32, gate)?;
-    let piece = piece.as_slice();
-    match head_of(first_five(piece), left, most) {
+    read_ahead(alloc, disk, ahead, gate, left)?;
+    match head_of(first_five(ahead.as_slice()), left, most) {
         Head::Closed => Ok(None),
         Head::Broken => Err(OpenWhy::NotSpool { at: gate }),
         Head::Open { length } => {
-            let body = body_of(alloc, disk, gate, piece, length)?;
+            let body = body_of(alloc, disk, gate, ahead.as_slice(), length)?;
+            ahead.pass(length as usize + 5);
             Ok(Some(body))
         }
     }
@@ -208,10 +245,11 @@ pub fn read_bodies<D: Disk>(
     ensures crash { Crash D.model Stays disk.old disk.new }
 {
     let mut bodies = Vec::new(alloc);
+    let mut ahead = Ahead::new(alloc);
     let mut gate: u64 = first;
     let mut most = LONGEST_FIRST;
     'records: loop {
-        match read_body(alloc, disk, gate, size, most)? {
+        match read_body(alloc, disk, &mut ahead, gate, size, most)? {
             None => {
                 return Ok(Found {
                     size: gate + 1,
@@ -252,7 +290,8 @@ pub fn read_one<D: Disk>(
     ensures cause { HasOpenCause (D.model.faults disk.old) (D.model.faults disk.new) result }
     ensures crash { Crash D.model Stays disk.old disk.new }
 {
-    match read_body(alloc, disk, gate, size, LONGEST_FIRST)? {
+    let mut ahead = Ahead::new(alloc);
+    match read_body(alloc, disk, &mut ahead, gate, size, LONGEST_FIRST)? {
         None => Err(OpenWhy::NotSpool { at: gate }),
         Some(body) => {
             let next = read(alloc, disk, gate + 5 + body.len() as u64, 1, gate)?;

@@ -35,8 +35,8 @@ returns-then-as_slice-eq1-clause-not_one g c = λ p e f told.
     (c.as_slice.ensures ∙ c.in_ok-next-in-Some.ensures.octets f (c.read_body.ensures.content ∙ told)) in
     (cc, not_more c.args.gate c.in-Some.body c.as_slice.result.now f (stands f told) next_is c.if-as_slice-eq1.true)
 
-pub returns-else-as_slice-eq1-clause-one : goal.returns-else-as_slice-eq1-clause-one
-returns-else-as_slice-eq1-clause-one g c = λ f told.
+pub returns-clause-one : goal.returns-clause-one
+returns-clause-one g c = λ f told.
     let stands = MatchOption-at_some _ _ _ c.in-Some.is c.in_ok-read_body.ensures.body in
     let next_is = subst (λ (n : ℕ). c.as_slice.result.now ≡ take 1 (drop (c.args.gate + 5 + n) f)) c.len.ensures
     (c.as_slice.ensures ∙ c.in_ok-next-in-Some.ensures.octets f (c.read_body.ensures.content ∙ told)) in
