@@ -1,7 +1,8 @@
 //! The recipients of an item: where the route of each leads, and whether he waits. No memory is taken for an item of
 //! one, as most are.
 
-ghost use Rattle.std.specs.Prelude.{◌≡◌, ◌≢◌, ◌++◌, ◌∷◌, [], false, length, IfOk, OnOk, OnErr};
+ghost use Rattle.std.specs.Prelude.{◌≡◌, ◌≢◌, ◌++◌, ◌∷◌, [], false, length, IfOk, IfSome, OnOk, OnErr};
+ghost use Rattle.std.specs.Prelude.{slice_get};
 ghost use Rattle.std.specs.Option.{option_copied};
 ghost use Rattle.mta_queue.specs.declared.mark.Mark.{Mark as MarkValue};
 ghost use Rattle.mta_queue.specs.Held.{marks_of};
@@ -10,7 +11,6 @@ ghost use Rattle.mta_queue.specs.Marks.{mark_of, set_waits};
 use mta_ber::Memory;
 use std::alloc::Global;
 use std::marker::Model;
-use std::slice;
 
 /// A recipient of an item.
 #[derive(Clone, Copy)]
@@ -21,15 +21,71 @@ pub struct Mark {
     pub waits: bool,
 }
 
-// How the recipients of an item are held.
+// How the recipients of an item are held, in 16 octets.
 #[derive(Drop)]
 enum Held {
     // There are none.
     Nobody,
-    // There is one.
-    One(Mark),
-    // There are more.
-    Many(Vec<Mark>),
+    // There is one, who does not wait. This is the place of the one to whom his route leads.
+    Resting(Option<u32>),
+    // There is one, who waits.
+    Waiting(Option<u32>),
+    // There are more, or one whose place has no such number.
+    Many(Box<Vec<Mark>>),
+}
+
+// A place by a number of 32 bits, where it has one.
+fn short_of(route: Option<usize>) -> Option<Option<u32>>
+    ensures { IfSome result (λ short. short ≡ route) }
+{
+    match route {
+        None => Some(None),
+        Some(place) => Some(Some(u32::try_from(place).ok()?)),
+    }
+}
+
+// One recipient, whose place has a number of 32 bits.
+fn one_short(route: Option<u32>, waits: bool) -> Held
+    ensures { marks_of result ≡ record { route = route; waits = waits } ∷ [] }
+{
+    if waits {
+        Held::Waiting(route)
+    } else {
+        Held::Resting(route)
+    }
+}
+
+// A recipient by the short number of his place.
+fn mark_with(route: Option<u32>, waits: bool) -> Mark
+    ensures { result ≡ record { route = route; waits = waits } }
+{
+    let route = match route {
+        None => None,
+        Some(place) => Some(place as usize),
+    };
+    Mark { route, waits }
+}
+
+// These recipients in a list.
+fn many(alloc: Global, marks: Vec<Mark>) -> Result<Held, Memory>
+    ensures { IfOk result (λ h. marks_of h ≡ marks.items) }
+{
+    match Box::new(alloc, marks) {
+        Ok(marks) => Ok(Held::Many(marks)),
+        Err(_) => Err(Memory),
+    }
+}
+
+// One recipient.
+fn one(alloc: Global, mark: Mark) -> Result<Held, Memory>
+    ensures { IfOk result (λ h. marks_of h ≡ mark ∷ []) }
+{
+    if let Some(route) = short_of(mark.route) {
+        return Ok(one_short(route, mark.waits));
+    }
+    let mut marks = Vec::with_capacity(alloc, 1)?;
+    marks.push(mark)?;
+    many(alloc, marks)
 }
 
 // Two recipients.
@@ -39,18 +95,43 @@ fn both(alloc: Global, first: Mark, second: Mark) -> Result<Held, Memory>
     let mut marks = Vec::with_capacity(alloc, 2)?;
     marks.push(first)?;
     marks.push(second)?;
-    Ok(Held::Many(marks))
+    many(alloc, marks)
 }
 
 impl Held {
-    // The recipients, lent.
-    fn as_slice(&self) -> &[Mark]
-        ensures { result.now ≡ marks_of self.now }
+    // How many they are.
+    fn len(&self) -> usize
+        ensures { result ≡ length (marks_of self.now) }
     {
         match self {
-            Held::Nobody => &[],
-            Held::One(mark) => slice::from_ref(mark),
-            Held::Many(marks) => marks.as_slice(),
+            Held::Nobody => 0,
+            Held::Resting(_) => 1,
+            Held::Waiting(_) => 1,
+            Held::Many(marks) => marks.len(),
+        }
+    }
+
+    // The recipient at a place, from 0.
+    fn get(&self, place: usize) -> Option<Mark>
+        ensures { result ≡ slice_get (marks_of self.now) place }
+    {
+        match self {
+            Held::Nobody => None,
+            Held::Resting(route) => {
+                if place == 0 {
+                    Some(mark_with(*route, false))
+                } else {
+                    None
+                }
+            }
+            Held::Waiting(route) => {
+                if place == 0 {
+                    Some(mark_with(*route, true))
+                } else {
+                    None
+                }
+            }
+            Held::Many(marks) => marks.get(place).copied(),
         }
     }
 
@@ -60,11 +141,9 @@ impl Held {
         ensures err { OnErr result (marks_of self.new ≡ marks_of self.old) }
     {
         match self {
-            Held::Nobody => *self = Held::One(mark),
-            Held::One(first) => {
-                let first = *first;
-                *self = both(alloc, first, mark)?;
-            }
+            Held::Nobody => *self = one(alloc, mark)?,
+            Held::Resting(route) => *self = both(alloc, mark_with(*route, false), mark)?,
+            Held::Waiting(route) => *self = both(alloc, mark_with(*route, true), mark)?,
             Held::Many(marks) => marks.push(mark)?,
         }
         Ok(())
@@ -78,9 +157,14 @@ impl Held {
     {
         match self {
             Held::Nobody => {}
-            Held::One(mark) => {
+            Held::Resting(route) => {
                 if recipient == 1 {
-                    mark.waits = waits;
+                    *self = one_short(*route, waits);
+                }
+            }
+            Held::Waiting(route) => {
+                if recipient == 1 {
+                    *self = one_short(*route, waits);
                 }
             }
             Held::Many(marks) => {
@@ -136,7 +220,7 @@ impl Marks {
     pub fn len(&self) -> usize
         ensures { result ≡ length self.now }
     {
-        self.held.as_slice().len()
+        self.held.len()
     }
 
     /// The recipient of this number.
@@ -146,7 +230,7 @@ impl Marks {
         if recipient == 0 {
             return None;
         }
-        self.held.as_slice().get(recipient as usize - 1).copied()
+        self.held.get(recipient as usize - 1)
     }
 
     /// Whether the recipient of this number waits is put down.
