@@ -241,17 +241,21 @@ fn shared_twice(shared: Arc<Octets, Global>) -> (Held, Result<Arc<Octets, Global
     }
 }
 
-// The same octets, held with others from now on. None is copied, and they stay where memory is wanted.
+// The same octets, held with others from now on. None is copied, memory that they do not need is given back, and they
+// stay where memory is wanted.
 fn shared(alloc: Global, held: Held) -> (Held, Result<Arc<Octets, Global>, Memory>)
     ensures same { octets_in result.0 ≡ octets_in held }
     ensures ok { IfOk result.1 (λ other. other.value ≡ octets_in held) }
 {
     match held {
         Held::Shared(shared) => shared_twice(shared),
-        Held::Own(octets) => match Arc::new(alloc, Octets::from_vec(octets)) {
-            Ok(shared) => shared_twice(shared),
-            Err(failed) => (Held::Own(failed.value.into_vec()), Err(Memory)),
-        },
+        Held::Own(mut octets) => {
+            octets.shrink_to_fit();
+            match Arc::new(alloc, Octets::from_vec(octets)) {
+                Ok(shared) => shared_twice(shared),
+                Err(failed) => (Held::Own(failed.value.into_vec()), Err(Memory)),
+            }
+        }
     }
 }
 

@@ -3,7 +3,6 @@
 -- The record of a second area is moved into the first, the journal is compacted where it has grown past its use, and
 -- the format is set where the history has an older one.
 use Rattle.std.specs.Prelude.{◌≡◌, ◌≢◌, ◌⊎◌, ℕ, ◌+◌, ◌≤◌, ◌<◌, ◌==◌, Bool, false, List, [], ◌∷◌, ◌++◌, map, Option}
-use Rattle.std.specs.Prelude.{Some}
 use Rattle.std.specs.Prelude.{Result, IsOk, IsErrOf, if◌then◌else◌}
 use Rattle.mta_edge.specs.Causes.{Rose}
 use Rattle.mta_edge.specs.Views.{DiskView, StaysTold, WhereTold}

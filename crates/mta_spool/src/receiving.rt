@@ -11,19 +11,24 @@ ghost use Rattle.mta_histories.specs.Classes.{complete, secure};
 ghost use Rattle.mta_histories.specs.History.{IsOnLane};
 ghost use Rattle.mta_histories.specs.Lanes.{lane_at};
 ghost use Rattle.mta_lane_recv.specs.Half as recv;
+ghost use Rattle.mta_lanes.specs.Finds.{AreJoinedOn};
+ghost use Rattle.mta_state.specs.Kept.{state_of};
 ghost use Rattle.mta_spool.specs.Receiving.{IsBad, IsExpected, IsFaultOn, IsItemOn, IsMemoryOrSpent, IsNoApdu};
 ghost use Rattle.mta_spool.specs.Receiving.{IsTooLong};
 ghost use Rattle.mta_spool.specs.Refusals.{ExpectsPiece};
 
 use crate::lanes::refusal_on;
 use crate::spool::Spool;
-use mta_ber::{Fault, Kind, Octets, ReadFault};
+use mta_ber::{Fault, Kind, Memory, Octets, ReadFault};
 use mta_edge::{Clock, Disk};
 use mta_lane_recv::longest_piece;
 use mta_lanes::Lane;
-use mta_machine::Item;
+use mta_machine::{Item, Origin};
 use mta_records::{CompleteFault, Step, StepFault};
-use mta_replay::{Ready, complete_change, joined_item};
+use mta_replay::{Ready, complete_change};
+use mta_state::{Kept, shared_item};
+use std::alloc::Global;
+use std::sync::Arc;
 
 // The most octets of an activity.
 const LONGEST_ACTIVITY: u32 = 2_097_152;
@@ -39,6 +44,27 @@ fn expects(opened: &Lane, generation: u64, activity: u32, number: u32, piece: &[
         && opened.takes_piece(activity, number)
         && 1 <= piece.len()
         && piece.len() as u64 <= longest_piece(values.checkpoint)
+}
+
+// The octets of the pieces before one of an open lane, and of that one, to be held by an item too. What is kept stays
+// as it is.
+fn shared_octets(
+    kept: &mut Kept,
+    lane: u32,
+    number: u32,
+    piece: &[u8],
+) -> Result<Arc<Octets, Global>, Memory>
+    requires { lane_at lane kept.old.lanes.open_lanes.items ≢ None }
+    ensures parts { kept.new.parts ≡ kept.old.parts }
+    ensures moment { kept.new.moment ≡ kept.old.moment }
+    ensures same { state_of kept.new ≡ state_of kept.old }
+    ensures ok { IfOk result (λ octets.
+        AreJoinedOn (lane_at lane kept.old.lanes.open_lanes.items) number piece.now octets.value) }
+{
+    match kept.lanes.share(lane, number, piece)? {
+        Some(octets) => Ok(octets),
+        None => unreachable!(),
+    }
 }
 
 impl<D: Disk + Drop, C: Clock + Drop> Spool<D, C> {
@@ -144,17 +170,23 @@ impl<D: Disk + Drop, C: Clock + Drop> Spool<D, C> {
         }
     }
 
-    // The item that the pieces up to this one become, which the open lane takes; or their first fault.
-    fn joined(&self, lane: u32, number: u32, piece: &[u8], moment: u64) -> Result<Item, ReadFault>
-        requires { lane_at lane self.now.current.lanes.open_lanes ≢ None }
+    // The item that the pieces up to this one become, which the open lane takes, whose octets the lane holds too; or
+    // their first fault. The spool stays as it is.
+    fn joined(
+        &mut self,
+        lane: u32,
+        number: u32,
+        piece: &[u8],
+        moment: u64,
+    ) -> Result<Item, ReadFault>
+        requires { lane_at lane self.old.current.lanes.open_lanes ≢ None }
+        ensures same { self.new ≡ self.old }
         ensures item { IfOk result
-            (IsItemOn (lane_at lane self.now.current.lanes.open_lanes) number piece.now moment) }
-        ensures bad { IfErr result (IsFaultOn (lane_at lane self.now.current.lanes.open_lanes) number piece.now) }
+            (IsItemOn (lane_at lane self.old.current.lanes.open_lanes) number piece.now moment) }
+        ensures bad { IfErr result (IsFaultOn (lane_at lane self.old.current.lanes.open_lanes) number piece.now) }
     {
-        match self.replay.kept.lanes.get(lane) {
-            Some(opened) => joined_item(self.alloc, opened, number, piece, moment),
-            None => unreachable!(),
-        }
+        let octets = shared_octets(&mut self.replay.kept, lane, number, piece)?;
+        shared_item(self.alloc, octets, Origin::Lane, moment)
     }
 
     // Makes this item of an activity whose last piece this is, which the lane takes.
@@ -225,10 +257,11 @@ impl<D: Disk + Drop, C: Clock + Drop> Spool<D, C> {
             let fault = refusal_on(&self.replay.kept.lanes, lane, generation);
             return Err(CompleteFault::Step(fault));
         }
+        let no_memory = self.no_memory();
         let item = match self.joined(lane, number, piece, moment) {
             Ok(item) => item,
             Err(ReadFault::Bad(fault)) => return Err(CompleteFault::Bad(fault)),
-            Err(ReadFault::Memory) => return Err(CompleteFault::Step(self.no_memory())),
+            Err(ReadFault::Memory) => return Err(CompleteFault::Step(no_memory)),
         };
         match self.make_complete(moment, lane, generation, activity, number, piece, item) {
             Ok(number) => Ok(number),

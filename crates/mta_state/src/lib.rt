@@ -22,7 +22,7 @@ pub use decoded::Decoded;
 pub use delivery::Delivery;
 pub use kept::Kept;
 pub use parts::{Made, Parts};
-pub use reading::accepted_item;
+pub use reading::{accepted_item, shared_item};
 pub use readings::{Reading, back_of};
 pub use rest::{Rest, Span, Submitted};
 pub use rules::Rules;

@@ -46,3 +46,20 @@ pub fn accepted_item(
         Err(_) => Err(ReadFault::Memory),
     }
 }
+
+/// The item of octets that were submitted or received at a moment, and that others may hold too.
+///
+/// # Errors
+/// `Bad` with the first fault exactly where they spell no APDU; `Memory`.
+pub fn shared_item(
+    alloc: Global,
+    octets: Arc<Octets, Global>,
+    origin: Origin,
+    moment: u64,
+) -> Result<Item, ReadFault>
+    ensures item { IfOk result (IsItemOf octets.value origin moment) }
+    ensures bad { IfErr result (IsFaultOf octets.value) }
+{
+    let statuses = statuses_of(alloc, octets.as_slice())?;
+    Ok(Item::new(octets, moment, origin, statuses))
+}

@@ -1,4 +1,4 @@
-use Rattle.std.proofs.Common.{◌≡◌, true, None, Some, Ok, Err, refl, sym, ap, subst, ◌∙◌}
+use Rattle.std.proofs.Common.{rules, ◌≡◌, true, None, Some, Ok, Err, refl, sym, ap, subst, ◌∙◌}
 use Rattle.mta_records.specs.declared.step.Step.TheVariants as steps
 use Rattle.mta_records.specs.declared.fault.StepFault.{StepFault}
 use Rattle.mta_records.specs.declared.fault.CompleteFault.TheVariants as CompleteFaults
@@ -6,9 +6,11 @@ use Rattle.mta_histories.specs.Classes.{class_of, complete}
 use Rattle.mta_histories.specs.History.{when}
 use Rattle.mta_histories.specs.Lanes.{lane_at}
 use Rattle.mta_spool.specs.OnLanes.{refusal_on}
-use Rattle.mta_spool.specs.Receiving.{IsBad, IsExpected, IsNoApdu}
+use Rattle.mta_spool.specs.Receiving.{IsBad, IsExpected, IsNoApdu, Receives}
 use Rattle.mta_spool.specs.Refusals.{IsRefused}
+use Rattle.mta_spool.specs.Bases.{KeepsOn}
 use Rattle.mta_spool.specs.Shown.{Shown}
+use Rattle.mta_spool.specs.Stands.{Appends}
 use Rattle.mta_spool.proofs.Pieces.{bad_complete, complete_refused, lane_receives, may_complete, not_no_apdu}
 use Rattle.mta_spool.proofs.Pieces.{step_receives}
 use Rattle.mta_spool.proofs.spool.Spool.complete_at.Goals as goal
@@ -55,7 +57,10 @@ returns-in-Ok-make_complete-clause-receives g c =
     (IsNoApdu c.args.number piece f))
     c.args.self.now c.make_complete.new.self
     (λ f bad. not_no_apdu s c.args.lane c.args.generation c.args.activity c.args.number piece moment on f bad)
-    (Ok c.in-Ok-make_complete.number) None refl c.in-Ok-make_complete.ensures.made
+    (Ok c.in-Ok-make_complete.number) None refl
+    (subst (λ (v : Shown _ _). Appends g.D.Disk.model
+    (steps.Complete c.args.lane c.args.generation c.args.activity c.args.number piece moment) v
+    c.make_complete.new.self None) c.joined.ensures.same c.in-Ok-make_complete.ensures.made)
 
 pub returns-in-Err-clause-receives : goal.returns-in-Err-clause-receives
 returns-in-Err-clause-receives g c =
@@ -73,4 +78,34 @@ returns-in-Err-clause-receives g c =
     c.args.self.now c.make_complete.new.self
     (λ f bad. not_no_apdu s c.args.lane c.args.generation c.args.activity c.args.number piece moment on f bad)
     (Err (CompleteFaults.Step c.in-Err.fault)) (Some c.in-Err.fault) refl
-    c.in-Err.ensures.made
+    (subst (λ (v : Shown _ _). Appends g.D.Disk.model
+    (steps.Complete c.args.lane c.args.generation c.args.activity c.args.number piece moment) v
+    c.make_complete.new.self (Some c.in-Err.fault)) c.joined.ensures.same c.in-Err.ensures.made)
+
+pub returns-in-Ok-make_complete-clause-keeps : goal.returns-in-Ok-make_complete-clause-keeps
+returns-in-Ok-make_complete-clause-keeps g c =
+    subst (λ (v : Shown _ _). KeepsOn g.D.Disk.model g.C.Clock.model v c.make_complete.new.self) c.joined.ensures.same
+    c.make_complete.ensures.keeps
+
+pub returns-in-Err-clause-keeps : goal.returns-in-Err-clause-keeps
+returns-in-Err-clause-keeps g c =
+    subst (λ (v : Shown _ _). KeepsOn g.D.Disk.model g.C.Clock.model v c.make_complete.new.self) c.joined.ensures.same
+    c.make_complete.ensures.keeps
+
+pub returns-in-Err-Memory-clause-receives : goal.returns-in-Err-Memory-clause-receives
+returns-in-Err-Memory-clause-receives g c =
+    let s = c.args.self.now.current in
+    let piece = c.args.piece.now in
+    let step = steps.Complete c.args.lane c.args.generation c.args.activity c.args.number piece c.args.moment in
+    let result = Err (CompleteFaults.Step c.no_memory-no_memory.result) in
+    let plain : Receives g.D.Disk.model step
+    (λ f.
+    IsBad s c.args.lane c.args.generation (complete c.args.activity c.args.number piece) c.args.moment
+    (IsNoApdu c.args.number piece f))
+    c.args.self.now c.args.self.now result = search rules in
+    subst
+    (λ (v : Shown _ _). Receives g.D.Disk.model step
+    (λ f.
+    IsBad s c.args.lane c.args.generation (complete c.args.activity c.args.number piece) c.args.moment
+    (IsNoApdu c.args.number piece f))
+    c.args.self.now v result) (sym c.joined.ensures.same) plain
