@@ -13,9 +13,9 @@ use mta_spool::Spool;
 use mta_tables::Tables;
 use std::alloc::Global;
 
-// The text of tables reads as them.
+/// The text of tables reads as them.
 #[tactic(auto, unfolding(mta_machine::specs::Rules::tables_value))]
-fn text_reads(tables: &Tables)
+pub(crate) fn text_reads(tables: &Tables)
     ensures { tables_value tables.now.text ≡ Some tables.now }
 {
     let _text = tables.text();
