@@ -22,8 +22,7 @@ use Rattle.mta_audit_run.specs.Outcome.{unasked, audited, no_first as is_no_firs
 use Rattle.mta_audit_run.specs.Outcome.{failed as disk_failed, short as no_memory}
 use Rattle.mta_output.specs.Output.{Output, OutputFailed, Prints}
 use Rattle.mta_audit_run.specs.Output.{HasClosed}
-use Rattle.mta_output.specs.Output.{whole, cut}
-use Rattle.mta_audit_run.specs.Output.{line, short, failed, short_failed}
+use Rattle.mta_output.specs.Output.{whole, cut, line, short, failed, short_failed}
 use Rattle.mta_audit_run.specs.Ran.{HasRun, CallsFor, IsOrFails, PrintsAudit, Tells, IsComplete}
 use Rattle.mta_audit_run.specs.Ran.{usage, no_first, no_second, agree, differ}
 use Rattle.mta_audit_run.specs.Stops.{status_by, status_of}

@@ -35,3 +35,11 @@ PrintsFront out text = OutputFailed out × Goes (TakesFront text) out.before out
 pub data HasPrinted (text : List ℕ) (good : ℕ) (out : Output) (status : ℕ) : Type 0 where
   whole : status ≡ good → Prints out text → HasPrinted text good out status
   cut : status ≡ 9 → PrintsFront out text → HasPrinted text good out status
+
+-- what telling a line with its status leaves: both, or the line for want of memory and 7, or a front of one of these
+-- lines and 9
+pub data HasToldLine (text no_memory : List ℕ) (good : ℕ) (out : Output) (status : ℕ) : Type 0 where
+  line : status ≡ good → Prints out text → HasToldLine text no_memory good out status
+  short : status ≡ 7 → Prints out no_memory → HasToldLine text no_memory good out status
+  failed : status ≡ 9 → PrintsFront out text → HasToldLine text no_memory good out status
+  short_failed : status ≡ 9 → PrintsFront out no_memory → HasToldLine text no_memory good out status

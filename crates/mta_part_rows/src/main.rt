@@ -1,10 +1,10 @@
 //! Parts of the agent, each by itself: the outside and the journal (`outside.rt`), bodies of records (`records.rt`),
 //! units of associations (`units.rt`), elements of BER (`elements.rt`), sessions (`sessions.rt`), first faults of APDUs
-//! (`faults.rt`), tables and names
-//! (`tables.rt`), command lines (`words.rt`), and what is done and made under tables (`rules.rt`). Reads rows from its
-//! input, most with fields behind tabs. A row `section` names what the rows behind it are about; the head of its file
-//! says what they are. A row `tables` holds the text of the tables of the rows behind it, in which each line ends with
-//! `|`. Prints the section's name, what is told of its rows, and how many were answered as they say or told otherwise.
+//! (`faults.rt`), tables and names (`tables.rt`), command lines (`words.rt`), and what is done and made under tables
+//! (`rules.rt`). Reads rows from its input, most with fields behind tabs. A row `section` names what the rows behind it
+//! are about; the head of its file says what they are. A row `tables` holds the text of the tables of the rows behind
+//! it, in which each line ends with `|`. Prints the section's name, what is told of its rows, and how many were
+//! answered as they say or told otherwise.
 #![tactic(auto)]
 
 mod elements;

@@ -10,8 +10,8 @@ use mta_records::{RecordFault, Step, read_record, write_record};
 use mta_rows::{Fields, octets_of};
 use std::alloc::{AllocError, Global};
 
-// No body of a row is longer.
-const LONGEST: usize = 4_096;
+/// No body of a row is longer.
+pub const LONGEST_BODY: usize = 4_096;
 
 /// The step, where it is written as this body.
 fn told(alloc: Global, step: &Step, body: &[u8]) -> Result<String, AllocError>
@@ -26,7 +26,7 @@ fn told(alloc: Global, step: &Step, body: &[u8]) -> Result<String, AllocError>
 
 /// What reading the octets answers. The step is let go at one place: the proof goes through all its kinds there.
 fn answer(alloc: Global, body: &[u8]) -> Result<String, AllocError> {
-    if body.len() > LONGEST {
+    if body.len() > LONGEST_BODY {
         return format!(in alloc; "a long row");
     }
     match read_record(alloc, body) {

@@ -6,8 +6,8 @@ use Rattle.mta_rehearse_run.specs.declared.rehearsal.Rehearsal.{Rehearsal}
 use Rattle.mta_rehearse_run.specs.declared.stop.Stop.{Stop}
 use Rattle.mta_rehearse_run.specs.declared.stop.Stop.TheVariants as Stops
 use Rattle.mta_rehearse_run.specs.Network.{AreTablesIn, AreRead}
-use Rattle.mta_output.specs.Output.{Output, whole, cut}
-use Rattle.mta_rehearse_run.specs.Output.{line, short, failed, short_failed, HasClosed}
+use Rattle.mta_output.specs.Output.{Output, whole, cut, line, short, failed, short_failed}
+use Rattle.mta_rehearse_run.specs.Output.{HasClosed}
 use Rattle.mta_rehearse_run.specs.Ran.{CallsFor, usage, bad_line, twice, no_agent, walked, IsCalledForOrFails}
 use Rattle.mta_rehearse_run.specs.Rehearsal.{ShowsAsked, IsRehearsed, Outcome, unasked, unread, answered}
 use Rattle.mta_rehearse_run.specs.Rehearsal.{short as no_memory}

@@ -13,9 +13,8 @@ use Rattle.mta_rehearse_run.specs.declared.walked.WalkEnd.TheVariants as Ends
 use Rattle.mta_rehearse_run.specs.Agents.{agent_named}
 use Rattle.mta_rehearse_run.specs.Network.{network_of, AreRead}
 use Rattle.mta_output.specs.Output.{Output, OutputFailed, HasPrinted}
-use Rattle.mta_rehearse_run.specs.Output.{HasTold, line, short, failed, short_failed}
-use Rattle.mta_output.specs.Output.{whole, cut}
-use Rattle.mta_rehearse_run.specs.Output.{HasClosed}
+use Rattle.mta_output.specs.Output.{whole, cut, line, short, failed, short_failed}
+use Rattle.mta_rehearse_run.specs.Output.{HasClosed, HasTold}
 use Rattle.mta_rehearse_run.specs.Ran.{HasRun, CallsFor, IsOrFails, IsOfWalk, PrintsWalk, Tells, AllInOrder, IsComplete}
 use Rattle.mta_rehearse_run.specs.Rehearsal.{IsRehearsed, Outcome, unasked, unread, answered}
 use Rattle.mta_rehearse_run.specs.Rehearsal.{short as no_memory}

@@ -10,4 +10,4 @@ mod told;
 pub use fields::{Fields, is_wanted, number};
 pub use names::Names;
 pub use octets::{RowFault, lines_of, octets_of, words_of};
-pub use told::{pairs, shown, tell};
+pub use told::{pairs, said, shown, tell};

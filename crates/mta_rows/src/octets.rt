@@ -1,7 +1,7 @@
 //! Octets and lines, as rows spell them.
 
-ghost use Rattle.std.specs.Prelude.{◌≡◌, map, IfOk};
-ghost use Rattle.mta_rows.specs.Texts.{line_feed_for};
+ghost use Rattle.std.specs.Prelude.{◌≡◌, ◌<◌, map, string_bytes, IfOk};
+ghost use Rattle.mta_rows.specs.Texts.{line_feed_for, words_between};
 
 use hex::FromHexError;
 use std::alloc::{AllocError, Global};
@@ -69,11 +69,21 @@ pub fn lines_of(alloc: Global, text: &str) -> Result<Vec<u8>, AllocError>
         .collect(alloc)
 }
 
+// The words of a text, as they stand there.
+fn split(alloc: Global, text: &str, between: char) -> Result<Vec<&str>, AllocError>
+    ensures { IfOk result (λ v. between < 128 → map (λ x. x.now) v.items ≡ words_between between text.now) }
+{
+    text.split(between).collect(alloc)
+}
+
 /// The words of a command line, which has this character between two.
-pub fn words_of(alloc: Global, line: &str, between: char) -> Result<Vec<String>, AllocError> {
+pub fn words_of(alloc: Global, line: &str, between: char) -> Result<Vec<String>, AllocError>
+    ensures { IfOk result (λ v. between < 128 → map string_bytes v.items ≡ words_between between line.now) }
+{
     let mut words = Vec::new(alloc);
-    for word in line.split(between) {
-        words.push(String::from_str(alloc, word)?)?;
+    let parts = split(alloc, line, between)?;
+    for part in parts.as_slice() {
+        words.push(String::from_str(alloc, part)?)?;
     }
     Ok(words)
 }

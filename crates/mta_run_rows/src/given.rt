@@ -6,19 +6,15 @@ use mta_edge::{MemClock, MemDisk, Octets, SafeDisk};
 use mta_links::Role;
 use std::alloc::{AllocError, Global};
 
-pub fn octets(alloc: Global, bytes: &[u8]) -> Result<Octets> {
-    Ok(Octets::from_slice(alloc, bytes)?)
-}
-
 /// A disk whose call of this number fails.
 pub fn disk_of(alloc: Global, bytes: &[u8], fails: u64) -> Result<MemDisk> {
-    let octets = octets(alloc, bytes)?;
+    let octets = Octets::from_slice(alloc, bytes)?;
     Ok(MemDisk::new(alloc, octets, [fails].to_vec(alloc)?))
 }
 
 /// A disk that is changed in place, of which no call fails.
 pub fn safe_disk(alloc: Global, bytes: &[u8]) -> Result<SafeDisk> {
-    Ok(SafeDisk::new(alloc, octets(alloc, bytes)?))
+    Ok(SafeDisk::new(alloc, Octets::from_slice(alloc, bytes)?))
 }
 
 /// A clock that stands at this moment.
@@ -28,7 +24,7 @@ pub fn clock(alloc: Global, moment: u64) -> Result<MemClock, AllocError> {
 
 /// The name of a peer.
 pub fn word_of(alloc: Global, text: &str) -> Result<Word> {
-    match Word::from_octets(alloc, octets(alloc, text.as_bytes())?)? {
+    match Word::from_octets(alloc, Octets::from_slice(alloc, text.as_bytes())?)? {
         Some(word) => Ok(word),
         None => Err(anyhow!("no name")),
     }

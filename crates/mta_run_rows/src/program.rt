@@ -1,10 +1,9 @@
-//! The program's run, and what it says.
+//! The program's run.
 
 use mta_edge::{Disk, MemClock, MemSink, Source};
 use mta_links::Station;
-use mta_rows::shown;
 use mta_run::{Finished, run};
-use std::alloc::{AllocError, Global};
+use std::alloc::Global;
 use std::sync::Wait;
 use std::thread::Threads;
 
@@ -31,11 +30,4 @@ where
     run(
         rt, alloc, words, &mut conf, &mut input, out, disk, stations, clock,
     )
-}
-
-/// The status and what was printed.
-pub fn said(alloc: Global, status: u8, out: &MemSink) -> Result<String, AllocError> {
-    let text = shown(alloc, out.octets())?;
-    let text = text.as_str();
-    format!(in alloc; "{status} {text}")
 }

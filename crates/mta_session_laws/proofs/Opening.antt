@@ -12,10 +12,9 @@ use Rattle.mta_units.specs.declared.unit.OpenUnit.{OpenUnit}
 use Rattle.mta_lane_send.specs.declared.state.SendState.{SendState}
 use Rattle.mta_lane_send.specs.declared.state.SendState.TheVariants as state
 use Rattle.mta_lane_send.specs.Half.{is_idle}
-use Rattle.mta_transfer_rules.specs.Units.{LaneUnit}
 use Rattle.mta_transfer_rules.specs.Units as u
 use Rattle.mta_transfer_rules.specs.Sending as s
-use Rattle.mta_transfer_rules.specs.Sending.{SendEnd, SendEvent, SendStage, stage_on_link, stage_got, is_discarded}
+use Rattle.mta_transfer_rules.specs.Sending.{SendEnd, SendEvent, stage_on_link}
 use Rattle.mta_records.specs.declared.fault.StepFault.{StepFault}
 use Rattle.mta_records.specs.declared.fault.StepFault.TheVariants as fault
 use Rattle.mta_session.specs.declared.ask.Reply.{Reply}

@@ -9,7 +9,7 @@ use Rattle.mta_lane_send.specs.Half.{is_idle, is_sending, last_of, confirmed_at}
 use Rattle.mta_transfer_rules.specs.Units.{LaneUnit}
 use Rattle.mta_transfer_rules.specs.Units as u
 use Rattle.mta_transfer_rules.specs.Sending as s
-use Rattle.mta_transfer_rules.specs.Sending.{SendEnd, SendEvent}
+use Rattle.mta_transfer_rules.specs.Sending.{SendEnd}
 use Rattle.mta_session.specs.declared.phase.OwnStep.{OwnStep}
 use Rattle.mta_session.specs.declared.phase.OwnStep.TheVariants as own
 use Rattle.mta_session.specs.declared.phase.Phase.TheVariants as phase

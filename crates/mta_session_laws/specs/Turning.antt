@@ -9,7 +9,7 @@ use Rattle.mta_lane_send.specs.declared.state.SendState.TheVariants as state
 use Rattle.mta_lane_send.specs.Half.{is_idle}
 use Rattle.mta_transfer_rules.specs.Units.{LaneUnit}
 use Rattle.mta_transfer_rules.specs.Sending as s
-use Rattle.mta_transfer_rules.specs.Sending.{SendEnd, SendEvent, SendStep}
+use Rattle.mta_transfer_rules.specs.Sending.{SendEnd, SendEvent}
 use Rattle.mta_session.specs.declared.ask.Reply.{Reply}
 use Rattle.mta_session.specs.declared.ask.Reply.TheVariants as reply
 use Rattle.mta_session.specs.declared.event.Event.{Event}

@@ -1,20 +1,7 @@
-//! What runs are given and leave, and the records of a disk.
+//! What runs leave, and the records of a disk.
 
-use anyhow::Result;
-use mta_edge::{MemDisk, MemSink, Octets};
-use mta_rows::shown;
+use mta_edge::MemDisk;
 use std::alloc::{AllocError, Global};
-
-pub fn octets(alloc: Global, bytes: &[u8]) -> Result<Octets> {
-    Ok(Octets::from_slice(alloc, bytes)?)
-}
-
-/// The status and what was printed.
-pub fn said(alloc: Global, status: u8, out: &MemSink) -> Result<String, AllocError> {
-    let text = shown(alloc, out.octets())?;
-    let text = text.as_str();
-    format!(in alloc; "{status} {text}")
-}
 
 /// What two disks hold.
 pub fn held_by(

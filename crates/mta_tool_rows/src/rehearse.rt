@@ -10,17 +10,16 @@
 
 mod held;
 
-use crate::given::{octets, said};
 use anyhow::Result;
 pub use held::Held;
-use mta_edge::{MemSink, MemSource};
+use mta_edge::{MemSink, MemSource, Octets};
 use mta_rehearse_run::rehearse_run;
-use mta_rows::{Fields, tell, words_of};
+use mta_rows::{Fields, said, tell, words_of};
 use std::alloc::Global;
 
 fn ran_into(alloc: Global, held: &Held, line: &str, out: &mut MemSink) -> Result<u8> {
     let words = words_of(alloc, line, ',')?;
-    let octets = octets(alloc, held.texts.as_slice())?;
+    let octets = Octets::from_slice(alloc, held.texts.as_slice())?;
     let mut conf = MemSource::new(octets, [held.texts_fail].to_vec(alloc)?);
     Ok(rehearse_run(alloc, words.as_slice(), &mut conf, out))
 }
@@ -30,7 +29,7 @@ fn ran(alloc: Global, held: &mut Held, line: &str) -> Result<String> {
     let mut out = MemSink::new(alloc, [held.output_fails].to_vec(alloc)?);
     let status = ran_into(alloc, held, line, &mut out)?;
     held.calm();
-    Ok(said(alloc, status, &out)?)
+    Ok(said(alloc, status, out.octets())?)
 }
 
 /// Tells of a row that wants something whether it was answered so.

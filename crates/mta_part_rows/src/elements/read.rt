@@ -1,14 +1,11 @@
 //! What octets are read as.
 
-use crate::elements::written::written_int;
+use crate::elements::written::{LONGEST, written_int};
 use crate::faults::fault_text;
 use mta_ber::{Fault, Kind, Memory, Octets, ReadFault, TextClass, View};
 use mta_ber_tests::Note;
 use mta_rows::{Fields, pairs, shown};
 use std::alloc::{AllocError, Global};
-
-// No element of a row has more octets.
-const LONGEST: usize = 4_000;
 
 /// The first element of octets.
 pub fn first_of(octets: &[u8]) -> Result<View<'_>, Fault> {

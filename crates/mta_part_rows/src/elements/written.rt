@@ -5,8 +5,8 @@ use mta_ber::{Bits, LAST_MOMENT, Memory, Octets, Tag, Word, Writer, put_bits, pu
 use mta_rows::{number, pairs, shown};
 use std::alloc::{AllocError, Global};
 
-// No element of a row has more octets.
-const LONGEST: u64 = 4_000;
+/// No element of a row has more octets.
+pub const LONGEST: usize = 4_000;
 
 /// The octets of an integer under this tag; none where its number is above 30.
 pub fn written_int(alloc: Global, tag: Tag, n: i64) -> Result<Octets, Memory> {
@@ -61,7 +61,8 @@ fn written_element(alloc: Global, content: &[u8]) -> Result<Octets, Memory> {
 }
 
 fn zeros(alloc: Global, count: u64) -> Result<Vec<u8>, AllocError> {
-    vec![in alloc; 0u8; count.min(LONGEST) as usize]
+    let count = usize::try_from(count).unwrap_or(LONGEST).min(LONGEST);
+    vec![in alloc; 0u8; count]
 }
 
 // What stands before so many octets.

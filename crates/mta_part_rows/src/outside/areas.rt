@@ -9,14 +9,12 @@
 
 use crate::outside::journals::{append, opened};
 use crate::outside::numbers::{numbers, octets};
+use crate::records::LONGEST_BODY;
 use anyhow::{Result, bail};
 use mta_edge::{MemDisk, Octets};
 use mta_journal::Journal;
 use mta_rows::{Fields, number, shown};
 use std::alloc::Global;
-
-/// No body of a row is longer.
-const LONGEST: usize = 4_096;
 
 /// The lengths of the bodies as they were, and that of the one.
 #[derive(Drop)]
@@ -53,7 +51,7 @@ impl Drop for Looked {
 
 /// A body of so many octets FF.
 fn filled(alloc: Global, length: u64) -> Result<Octets> {
-    let length = usize::try_from(length).unwrap_or(0).min(LONGEST);
+    let length = usize::try_from(length).unwrap_or(0).min(LONGEST_BODY);
     Ok(Octets::from_vec(vec![in alloc; 0xFF_u8; length]?))
 }
 
@@ -79,7 +77,7 @@ fn made(alloc: Global, lengths: &[u64]) -> Result<Octets> {
 
 /// Puts a body in the place of all, where that may be done.
 fn compact(journal: &mut Journal<MemDisk>, body: &[u8]) -> Result<()> {
-    if body.len() > LONGEST || journal.first() != 23 || journal.size() >= 1_000_000 {
+    if body.len() > LONGEST_BODY || journal.first() != 23 || journal.size() >= 1_000_000 {
         bail!("no such journal");
     }
     if 2 * (29 + body.len() as u64) > journal.size() {

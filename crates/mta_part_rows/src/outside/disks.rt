@@ -4,15 +4,13 @@
 //! there, and `read-at` reads so many octets; the first two stand behind a sync.
 
 use crate::outside::numbers::{numbers, octets};
+use crate::records::LONGEST_BODY;
 use anyhow::Result;
 use mta_disk::{lift_gate, put_closed, read_at};
 use mta_edge::{Disk, MemDisk, Octets, SafeDisk};
 use mta_rows::{Fields, number, octets_of};
 use std::alloc::{AllocError, Global};
 use std::fmt::Debug;
-
-/// No body of a row is longer.
-const LONGEST: usize = 4_096;
 
 #[derive(Drop)]
 pub struct Disks {
@@ -64,7 +62,7 @@ fn read<D: Disk>(alloc: Global, disk: &mut D, at: u64) -> Result<String, AllocEr
 }
 
 fn put(alloc: Global, disk: &mut MemDisk, gate: u64, body: &[u8]) -> Result<String, AllocError> {
-    if gate >= disk.octets().len() as u64 || gate >= 1_000_000 || body.len() > LONGEST {
+    if gate >= disk.octets().len() as u64 || gate >= 1_000_000 || body.len() > LONGEST_BODY {
         return format!(in alloc; "no such gate");
     }
     match disk.sync() {

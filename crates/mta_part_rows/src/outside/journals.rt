@@ -10,14 +10,12 @@
 use crate::outside::areas::areas_answer;
 use crate::outside::large::large;
 use crate::outside::numbers::{numbers, octets};
+use crate::records::LONGEST_BODY;
 use anyhow::{Result, anyhow, bail};
 use mta_edge::{MemDisk, Octets};
 use mta_journal::{AppendFault, Journal, Opened};
 use mta_rows::{Fields, number, octets_of, shown};
 use std::alloc::{AllocError, Global};
-
-/// No body of a row is longer.
-const LONGEST: usize = 4_096;
 
 /// A journal that is open, where its first record ends, and the bodies that stood in it.
 pub struct Open {
@@ -65,7 +63,7 @@ impl Open {
 
 /// What an append answers. The only area or the first of two is current.
 pub fn append(journal: &mut Journal<MemDisk>, body: &[u8]) -> Result<Result<(), AppendFault>> {
-    if body.len() > LONGEST {
+    if body.len() > LONGEST_BODY {
         bail!("a long body");
     }
     if journal.first() == 8 {

@@ -2,12 +2,12 @@
 //! objects: where they would be let go on each way of a `?`, the proof goes through all their parts.
 
 use crate::case::Case;
-use crate::given::{clock, octets, role_of};
-use crate::program::{called, said};
+use crate::given::{clock, role_of};
+use crate::program::called;
 use anyhow::{Result, anyhow, bail};
-use mta_edge::{MemDisk, MemSink, MemSource};
+use mta_edge::{MemDisk, MemSink, MemSource, Octets};
 use mta_links::{MemLink, MemStation};
-use mta_rows::{Fields, words_of};
+use mta_rows::{Fields, said, words_of};
 use mta_run::Finished;
 use std::alloc::{AllocError, Global};
 use std::sync::Wait;
@@ -104,7 +104,7 @@ impl Ran {
 }
 
 fn links_of(alloc: Global, script: Script<'_>, failing: Failing) -> Result<Vec<MemLink>> {
-    let input = octets(alloc, script.gives)?;
+    let input = Octets::from_slice(alloc, script.gives)?;
     let fails = failing.calls(alloc, Place::Link)?;
     let mut links = Vec::new(alloc);
     links.push(MemLink::new(alloc, input, fails))?;
@@ -148,11 +148,11 @@ fn finished<R: Threads + Wait + Sync>(
     out: &mut MemSink,
 ) -> Result<Finished<MemDisk, MemStation>> {
     let words = words_of(alloc, script.words, ' ')?;
-    let conf = octets(alloc, case.tables.as_slice())?;
+    let conf = Octets::from_slice(alloc, case.tables.as_slice())?;
     let conf_fails = failing.calls(alloc, Place::Tables)?;
-    let input = octets(alloc, case.input.as_slice())?;
+    let input = Octets::from_slice(alloc, case.input.as_slice())?;
     let input_fails = failing.calls(alloc, Place::Input)?;
-    let disk = octets(alloc, disk)?;
+    let disk = Octets::from_slice(alloc, disk)?;
     let disk_fails = failing.calls(alloc, Place::Disk)?;
     let clock = clock(alloc, case.moment)?;
     let stations = stations_of(alloc, script, failing)?;
@@ -176,7 +176,7 @@ fn said_and_put(
     stations: &[MemStation],
     out: &MemSink,
 ) -> Result<(String, Vec<u8>), AllocError> {
-    let said = said(alloc, status, out)?;
+    let said = said(alloc, status, out.octets())?;
     Ok((said, put_to(alloc, stations)?))
 }
 

@@ -1,14 +1,14 @@
 //! Runs, and what they print. What a run leaves is let go in a call of its own, and all that may want memory is made
 //! before the objects: where they would be let go on each way of a `?`, the proof goes through all their parts.
 
-use crate::given::{clock, octets};
-use crate::program::{called, said};
+use crate::given::clock;
+use crate::program::called;
 use crate::runs::held::Held;
 use crate::runs::stations::{Stop, puts_of, stations_of};
 use anyhow::Result;
 use mta_edge::{MemDisk, MemSink, MemSource, Octets, SafeDisk, SafeSource};
 use mta_links::MemStation;
-use mta_rows::words_of;
+use mta_rows::{said, words_of};
 use mta_run::Finished;
 use std::alloc::{AllocError, Global};
 use std::mem;
@@ -27,10 +27,10 @@ pub fn finished<R: Threads + Wait + Sync>(
     out: &mut MemSink,
 ) -> Result<Finished<MemDisk, MemStation>> {
     let words = words_of(alloc, line, ' ')?;
-    let conf = octets(alloc, held.case.tables.as_slice())?;
-    let input = octets(alloc, held.case.input.as_slice())?;
+    let conf = Octets::from_slice(alloc, held.case.tables.as_slice())?;
+    let input = Octets::from_slice(alloc, held.case.input.as_slice())?;
     let input_fails = [held.input_fails].to_vec(alloc)?;
-    let disk = octets(alloc, disk)?;
+    let disk = Octets::from_slice(alloc, disk)?;
     let disk_fails = [fails].to_vec(alloc)?;
     let clock = clock(alloc, held.case.moment)?;
     Ok(called(
@@ -54,7 +54,7 @@ fn queue_into<R: Threads + Wait + Sync>(
     out: &mut MemSink,
 ) -> Result<String> {
     let Finished { status, .. } = finished(rt, alloc, held, "spool", disk, 0, out)?;
-    Ok(said(alloc, status, out)?)
+    Ok(said(alloc, status, out.octets())?)
 }
 
 /// What `spool` prints of these octets.
@@ -84,7 +84,7 @@ fn run_into<R: Threads + Wait + Sync>(
     let finished = finished(rt, alloc, held, line, disk, held.disk_fails, out)?;
     let status = finished.status;
     held.case.disk = held_by(alloc, finished)?;
-    Ok(said(alloc, status, out)?)
+    Ok(said(alloc, status, out.octets())?)
 }
 
 /// Runs words over the disk, and keeps what it holds then.
@@ -109,8 +109,8 @@ fn finished_in_place<'a, R: Threads + Wait + Sync>(
     flag: &'a AtomicU64,
 ) -> Result<Finished<SafeDisk, Stop<'a, R>>> {
     let words = words_of(alloc, line, ' ')?;
-    let conf = octets(alloc, held.case.tables.as_slice())?;
-    let input = octets(alloc, held.case.input.as_slice())?;
+    let conf = Octets::from_slice(alloc, held.case.tables.as_slice())?;
+    let input = Octets::from_slice(alloc, held.case.input.as_slice())?;
     let clock = clock(alloc, held.case.moment)?;
     let stations = stations_of(alloc, rt, flag, held)?;
     Ok(called(
@@ -158,7 +158,7 @@ fn run_in_place_into<R: Threads + Wait + Sync>(
     held.case.disk = disk;
     held.puts = puts;
     held.stations = Vec::new(alloc);
-    Ok(said(alloc, status, out)?)
+    Ok(said(alloc, status, out.octets())?)
 }
 
 /// Runs words over a disk that is changed in place, with the stations, and keeps what it holds then and what their

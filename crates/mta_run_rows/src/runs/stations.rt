@@ -3,10 +3,10 @@
 
 ghost use Rattle.mta_links.specs.Links.{untold_link, untold_station};
 
-use crate::given::{octets, role_of};
+use crate::given::role_of;
 use crate::runs::held::{Given, Held};
 use anyhow::Result;
-use mta_edge::Failed;
+use mta_edge::{Failed, Octets};
 use mta_links::{Link, MemLink, Role, Station};
 use std::alloc::{AllocError, Global};
 use std::sync::Wait;
@@ -104,7 +104,7 @@ fn stop_of<'a, R>(
     given: &Given,
 ) -> Result<Stop<'a, R>> {
     let role = role_of(alloc, given.role.as_str())?;
-    let input = octets(alloc, given.octets.as_slice())?;
+    let input = Octets::from_slice(alloc, given.octets.as_slice())?;
     let line = Line {
         link: MemLink::new(alloc, input, Vec::new(alloc)),
         runtime,

@@ -1,14 +1,15 @@
 //! The station and the limits of a worker.
 
-use crate::given::{octets, role_of};
+use crate::given::role_of;
 use crate::workers::held::{Given, Held};
 use anyhow::Result;
+use mta_edge::Octets;
 use mta_links::{MemLink, MemStation};
 use mta_session::Limits;
 use std::alloc::Global;
 
 pub fn link(alloc: Global, given: &Given) -> Result<MemLink> {
-    let input = octets(alloc, given.octets.as_slice())?;
+    let input = Octets::from_slice(alloc, given.octets.as_slice())?;
     Ok(MemLink::new(alloc, input, [given.fails].to_vec(alloc)?))
 }
 

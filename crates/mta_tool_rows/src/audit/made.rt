@@ -2,11 +2,11 @@
 //! before the objects: where they would be let go on each way of a `?`, the proof goes through all their parts.
 
 use crate::audit::held::Held;
-use crate::given::{held_by, octets, said};
+use crate::given::held_by;
 use anyhow::Result;
 use mta_audit_run::{Audited, audit_run};
-use mta_edge::{MemDisk, MemSink};
-use mta_rows::words_of;
+use mta_edge::{MemDisk, MemSink, Octets};
+use mta_rows::{said, words_of};
 use std::alloc::{AllocError, Global};
 use std::mem;
 
@@ -29,9 +29,9 @@ fn audited(
     out: &mut MemSink,
 ) -> Result<Audited<MemDisk, MemDisk>> {
     let words = words_of(alloc, line, ',')?;
-    let first = octets(alloc, held.first.as_slice())?;
+    let first = Octets::from_slice(alloc, held.first.as_slice())?;
     let first_fails = [held.first_fails].to_vec(alloc)?;
-    let second = octets(alloc, held.second.as_slice())?;
+    let second = Octets::from_slice(alloc, held.second.as_slice())?;
     let second_fails = [held.second_fails].to_vec(alloc)?;
     Ok(called(
         alloc,
@@ -56,7 +56,7 @@ fn ran_into(alloc: Global, held: &mut Held, line: &str, out: &mut MemSink) -> Re
     let (first, second) = left(alloc, audited)?;
     held.first_before = mem::replace(&mut held.first, first);
     held.second_before = mem::replace(&mut held.second, second);
-    Ok(said(alloc, status, out)?)
+    Ok(said(alloc, status, out.octets())?)
 }
 
 /// The status and what was printed. The disks are kept as the run leaves them, and what they held before it.

@@ -2,7 +2,6 @@
 
 use crate::follow::held::Held;
 use crate::follow::made::run_of;
-use crate::given::octets;
 use anyhow::Result;
 use mta_edge::{MemDisk, Octets};
 use mta_journal::{Journal, Opened};
@@ -55,7 +54,7 @@ fn most_at(
 
 // The bodies of the records of these octets; none where they are no journal.
 fn standing(alloc: Global, bytes: &[u8]) -> Result<Vec<Octets>> {
-    match bodies_of(alloc, octets(alloc, bytes)?)? {
+    match bodies_of(alloc, Octets::from_slice(alloc, bytes)?)? {
         Some(bodies) => Ok(bodies),
         None => Ok(Vec::new(alloc)),
     }

@@ -3,15 +3,14 @@
 
 use crate::follow::held::Held;
 use crate::follow::link::Booth;
-use crate::given::{octets, said};
 use anyhow::Result;
-use mta_edge::{MemClock, MemDisk, MemSink};
+use mta_edge::{MemClock, MemDisk, MemSink, Octets};
 use mta_follow_run::{Followed, follow_run};
-use mta_rows::words_of;
+use mta_rows::{said, words_of};
 use std::alloc::{AllocError, Global};
 
 fn booth_of(alloc: Global, held: &Held) -> Result<Booth> {
-    let input = octets(alloc, held.input.as_slice())?;
+    let input = Octets::from_slice(alloc, held.input.as_slice())?;
     let fail = [held.link_fails].to_vec(alloc)?;
     let mut booth = Booth::new(held.station_fails != 0);
     if held.has_link {
@@ -64,7 +63,7 @@ impl Run {
 
     /// The status and what was printed.
     pub fn said(&self, alloc: Global) -> Result<String, AllocError> {
-        said(alloc, self.followed.status, &self.out)
+        said(alloc, self.followed.status, self.out.octets())
     }
 }
 
@@ -77,7 +76,7 @@ fn followed(
     out: &mut MemSink,
 ) -> Result<Followed<MemDisk, Booth>> {
     let words = words_of(alloc, line, ',')?;
-    let disk = octets(alloc, held.disk.as_slice())?;
+    let disk = Octets::from_slice(alloc, held.disk.as_slice())?;
     let fails = [disk_fails].to_vec(alloc)?;
     let moments = [0u64].to_vec(alloc)?;
     let booth = booth_of(alloc, held)?;

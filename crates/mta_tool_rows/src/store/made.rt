@@ -1,11 +1,11 @@
 //! Runs, and what they print. What a run leaves is let go in a call of its own, and all that may want memory is made
 //! before the objects: where they would be let go on each way of a `?`, the proof goes through all their parts.
 
-use crate::given::{held_by, octets, said};
+use crate::given::held_by;
 use crate::store::held::Held;
 use anyhow::Result;
-use mta_edge::{MemClock, MemDisk, MemSink};
-use mta_rows::{Fields, is_wanted, words_of};
+use mta_edge::{MemClock, MemDisk, MemSink, Octets};
+use mta_rows::{Fields, is_wanted, said, words_of};
 use mta_store_run::{Stored, store_run};
 use std::alloc::{AllocError, Global};
 
@@ -41,9 +41,9 @@ fn stored(
     out: &mut MemSink,
 ) -> Result<Stored<MemDisk, MemDisk>> {
     let words = line_of(alloc, line)?;
-    let spool = octets(alloc, held.spool.as_slice())?;
+    let spool = Octets::from_slice(alloc, held.spool.as_slice())?;
     let spool_fails = [held.spool_fails].to_vec(alloc)?;
-    let marks = octets(alloc, marks)?;
+    let marks = Octets::from_slice(alloc, marks)?;
     let marks_fails = [held.marks_fails].to_vec(alloc)?;
     let moments = [0].to_vec(alloc)?;
     Ok(called(
@@ -71,7 +71,7 @@ fn ran_into(alloc: Global, held: &mut Held, line: &str, out: &mut MemSink) -> Re
     let (spool, marks) = left(alloc, stored)?;
     held.spool = spool;
     held.marks = marks;
-    Ok(said(alloc, status, out)?)
+    Ok(said(alloc, status, out.octets())?)
 }
 
 /// The status and what was printed. The disks are kept as the run leaves them.
@@ -88,7 +88,7 @@ fn looked_into(
     out: &mut MemSink,
 ) -> Result<String> {
     let Stored { status, .. } = stored(alloc, held, marks, line, out)?;
-    Ok(said(alloc, status, out)?)
+    Ok(said(alloc, status, out.octets())?)
 }
 
 // What words are answered over these marks.

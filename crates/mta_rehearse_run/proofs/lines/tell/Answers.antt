@@ -1,6 +1,6 @@
 use Rattle.std.proofs.Common.{refl}
 use Rattle.mta_rehearse_run.specs.Stops.{line_of}
-use Rattle.mta_rehearse_run.specs.Output.{short, short_failed}
+use Rattle.mta_output.specs.Output.{short, short_failed}
 use Rattle.mta_rehearse_run.proofs.lines.tell.Goals as goal
 
 pub returns-in-Ok-put_all-2-clause-told : goal.returns-in-Ok-put_all-2-clause-told
