@@ -96,8 +96,6 @@ no_stop (Stops.NoPeer name) n x e =
     let h : ◌≡◌ {A = ℕ} 97 110 = ap (λ (l : List ℕ). get_or l 0 0) e in omega (arith, h)
 no_stop (Stops.BadApdu at kind) n x e =
     let h : ◌≡◌ {A = ℕ} 97 98 = ap (λ (l : List ℕ). get_or l 0 0) e in omega (arith, h)
-no_stop (Stops.Lost message) n x e =
-    let h : ◌≡◌ {A = ℕ} 97 109 = ap (λ (l : List ℕ). get_or l 0 0) e in omega (arith, h)
 
 -- what was taken, where both contents are told
 at_told : {step : List ℕ → List ℕ → Type 0} {old new : Option (List ℕ)} (a b : List ℕ) → Goes step old new

@@ -14,7 +14,7 @@ use Rattle.mta_stations.specs.Lines.{station_lines}
 use Rattle.mta_commands.specs.declared.stop.Stop.{Stop}
 use Rattle.mta_commands.specs.declared.stop.Stop.TheVariants as Stops
 use Rattle.mta_output.specs.Output.{Output}
-use Rattle.mta_commands.specs.Output.{cut, HasPrinted, HasShown, stopped, whole}
+use Rattle.mta_commands.specs.Output.{cut, PrintsOrFails, HasShown, stopped, whole}
 use Rattle.mta_commands.specs.Serving.{Had_ended, HasFinished, HasToldStations, IsFinishStop, IsOutcome}
 use Rattle.mta_commands.specs.Serving.{IsOwnRefusal, Settled, SettlesBehind, Well}
 use Rattle.mta_commands.proofs.Beginning.{settled_why}
@@ -67,7 +67,7 @@ module _ {D C : Type 0} (disks : DiskView D) (tells : ℕ → Type 0) (ends : Li
   where
     outcome_printed : (result : Result (Unit {0}) Stop) → HasToldStations ends out (Ok tt)
         → IsOutcome settled ends result
-        → HasPrinted (IsFinishStop settled ends) (λ text. text ≡ station_lines ends) out result
+        → PrintsOrFails (IsFinishStop settled ends) (λ text. text ≡ station_lines ends) out result
     outcome_printed (Ok done) told o = whole done (station_lines ends) refl told
     outcome_printed (Err stop) told o = stopped stop (inr o) (station_lines ends) (inr refl) told
 
@@ -87,10 +87,10 @@ module _ {D C : Type 0} (disks : DiskView D) (tells : ℕ → Type 0) (ends : Li
     }
 
     untold_printed : (stop : Stop) → HasToldStations ends out (Err stop)
-        → HasPrinted (IsFinishStop settled ends) (λ text. text ≡ station_lines ends) out (Err stop)
+        → PrintsOrFails (IsFinishStop settled ends) (λ text. text ≡ station_lines ends) out (Err stop)
     untold_printed stop (inl short) = stopped stop (inl short.0) [] (inl refl) (prints_nothing out short.1)
     untold_printed stop (inr failed) =
-        subst (λ (s : Stop). HasPrinted (IsFinishStop settled ends) (λ text. text ≡ station_lines ends) out (Err s))
+        subst (λ (s : Stop). PrintsOrFails (IsFinishStop settled ends) (λ text. text ≡ station_lines ends) out (Err s))
         (sym failed.0) (cut (station_lines ends) refl failed.1)
 
     -- they were not

@@ -14,7 +14,7 @@ use Rattle.mta_commands.specs.Words.{AddsSteps, OpensDisk}
 use Rattle.mta_commands.specs.Handed.{ForOpenedDisk, Handed, handed}
 use Rattle.mta_commands.specs.Inputs.{IsDrawn}
 use Rattle.mta_output.specs.Output.{Output}
-use Rattle.mta_commands.specs.Output.{IsFront, HasPrinted, whole, stopped, cut, HasShown}
+use Rattle.mta_commands.specs.Output.{IsFront, PrintsOrFails, whole, stopped, cut, HasShown}
 use Rattle.mta_commands.specs.DiskLeft.{Opening, uncalled, DiskLeft}
 use Rattle.mta_commands.specs.Causes.{Cause, IsText}
 use Rattle.mta_commands.specs.Command.{SourcesLeft, HasEnded, OnStations}
@@ -34,7 +34,7 @@ front_map text more (inr x) = inr (more text x)
 pub printed_map : {Why Other : Stop → Type 0} {IsText OtherText : List ℕ → Type 0} (out : Output)
     (result : Result (Unit {0}) Stop) → ((stop : Stop) → result ≡ Err stop → Why stop → Other stop)
     → ((t : List ℕ) → IsText t → OtherText t)
-    → HasPrinted Why IsText out result → HasPrinted Other OtherText out result
+    → PrintsOrFails Why IsText out result → PrintsOrFails Other OtherText out result
 printed_map out _ causes texts (whole d text x p) = whole d text (texts text x) p
 printed_map out _ causes texts (stopped stop c text f p) = stopped stop (causes stop refl c) text
     (front_map text texts f) p
@@ -44,13 +44,13 @@ printed_map out _ causes texts (cut text x p) = cut text (texts text x) p
 pub shown_printed : (Why : Stop → Type 0) (IsText : List ℕ → Type 0) (out : Output)
     (text : Result (List ℕ) Stop) (result : Result (Unit {0}) Stop)
     → ((t : List ℕ) → text ≡ Ok t → IsText t) → ((stop : Stop) → text ≡ Err stop → Why stop)
-    → HasShown text out result → HasPrinted Why IsText out result
+    → HasShown text out result → PrintsOrFails Why IsText out result
 shown_printed Why IsText out (Ok text) (Ok done) texts stops shown = whole done text (texts text refl) shown
 shown_printed Why IsText out (Ok text) (Err stop) texts stops shown = subst
-    (λ (s : Stop). HasPrinted Why IsText out (Err s)) (sym shown.0) (cut text (texts text refl) shown.1)
+    (λ (s : Stop). PrintsOrFails Why IsText out (Err s)) (sym shown.0) (cut text (texts text refl) shown.1)
 shown_printed Why IsText out (Err why) (Ok done) texts stops shown = absurd shown
 shown_printed Why IsText out (Err why) (Err stop) texts stops shown =
-    subst (λ (s : Stop). HasPrinted Why IsText out (Err s)) (sym shown.0)
+    subst (λ (s : Stop). PrintsOrFails Why IsText out (Err s)) (sym shown.0)
     (stopped why (stops why refl) [] (inl refl) (prints_nothing out shown.1))
 
 -- ---- what was read
@@ -87,7 +87,7 @@ pub ended_alike : {D C I : Type 0} (h : Handed D C I) (stations : OnStations) (o
     (opening : Opening) → SourcesLeft h → DiskLeft h.disks h.disk.before h.disk.after opening [] []
     → ForOpenedDisk h (λ f steps. IsSafeBefore h.disks f steps [] h.disk.before h.disk.after)
     → (AddsSteps h.words → result ≡ Ok tt → ⊥) → ((OpensDisk h.words → ⊥) → opening ≡ uncalled)
-    → HasPrinted (Cause h [] [] opening) (IsText h [] [] opening) out result → stations opening [] [] []
+    → PrintsOrFails (Cause h [] [] opening) (IsText h [] [] opening) out result → stations opening [] [] []
     → HasEnded h stations out result
 ended_alike h stations out result opening sources disk before other unless printed left = record {
   opening = opening;

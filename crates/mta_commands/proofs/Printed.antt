@@ -9,10 +9,9 @@ use Rattle.mta_edge.specs.Streams.{TakesFront}
 use Rattle.mta_commands.specs.declared.stop.Stop.{Stop}
 use Rattle.mta_commands.specs.declared.stop.Stop.TheVariants as Stops
 use Rattle.mta_commands.specs.Lines.{line_of, status_of}
-use Rattle.mta_output.specs.Output.{Output, output, Prints}
-use Rattle.mta_commands.specs.Output.{IsFront, HasPrinted, whole, stopped, cut, IsEnded}
-use Rattle.mta_commands.specs.Output.{done, told, cut_text, cut_line, HasTold, line, short, failed, short_failed}
-use Rattle.mta_commands.specs.Output.{HasClosed}
+use Rattle.mta_output.specs.Output.{Output, output, Prints, line, short, failed, short_failed}
+use Rattle.mta_commands.specs.Output.{IsFront, PrintsOrFails, whole, stopped, cut, IsEnded}
+use Rattle.mta_commands.specs.Output.{done, told, cut_text, cut_line, HasTold, HasClosed}
 
 joined : (t more a b g : List ℕ) → b ≡ a ++ t → g ≡ b ++ more → g ≡ a ++ (t ++ more)
 joined t more a b g first then = then ∙ ap (λ (x : List ℕ). x ++ more) first ∙ append_assoc a t more
@@ -57,7 +56,7 @@ module _ {O : Type 0} (sinks : SinkView O) (a b c : O) (Cause : Stop → Type 0)
   )
 
   -- what was printed, and the status, from what the command printed and what its end added
-  pub ended : (result : Result (Unit {0}) Stop) (status : ℕ) → HasPrinted Cause IsText (output sinks a b) result
+  pub ended : (result : Result (Unit {0}) Stop) (status : ℕ) → PrintsOrFails Cause IsText (output sinks a b) result
       → HasClosed result (output sinks b c) status → IsEnded Cause IsText (output sinks a c) status
   ended _ status (whole d text x p) q = done q.0 text x
       (subst (λ (t : Option (List ℕ)). Goes (λ f g. g ≡ f ++ text) (sinks.taken a) t) (sym q.1) p)

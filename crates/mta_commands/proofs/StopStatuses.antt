@@ -1,5 +1,5 @@
 -- What the status of a stop tells.
-use Rattle.std.proofs.Common.{◌≡◌, ℕ, List, None, Some, refl, sym, subst, arith, inl, inr}
+use Rattle.std.proofs.Common.{◌≡◌, ℕ, List, None, Some, refl, subst, arith, inl, inr}
 use Rattle.std.specs.Prelude.{◌⊎◌}
 use Rattle.mta_records.specs.declared.step.Step.{Step}
 use Rattle.mta_stations.specs.declared.end.Halt.{Halt}
@@ -13,7 +13,7 @@ use Rattle.mta_commands.specs.Handed.{Handed, SourceFailed, DiskFailed}
 use Rattle.mta_commands.specs.Lines.{status_of}
 use Rattle.mta_commands.specs.DiskLeft.{Opening, uncalled, refused, opened}
 use Rattle.mta_commands.specs.Causes.{IsText, of_submit, of_queue, of_serve, of_mailbox, of_decode, of_drill, Cause}
-use Rattle.mta_commands.specs.Causes.{usage, lost, memory, source, tables, apdu, not_spool, not_opened, disk, full}
+use Rattle.mta_commands.specs.Causes.{usage, memory, source, tables, apdu, not_spool, not_opened, disk, full}
 use Rattle.mta_commands.specs.Causes.{spent, no_mailbox, no_peer, full_opening, full_serving, spent_serving, of_worker}
 use Rattle.mta_commands.specs.Serving.{stop_of_halt}
 use Rattle.mta_commands.proofs.Words.{IsKnown, opens_known, serves_known, tables_known, apdu_known}
@@ -37,7 +37,6 @@ pub data StatusTells {D C I : Type 0} (h : Handed D C I) : Opening → ℕ → T
   seven : (opening : Opening) → StatusTells h opening 7
   eight : SourceFailed h → StatusTells h uncalled 8
   ten : (opening : Opening) → IsKnown h.words → StatusTells h opening 10
-  eleven : Drills h.words → StatusTells h uncalled 11
 
 module _ {D C I : Type 0} (h : Handed D C I) where
   said_known : (words : Words) → h.words ≡ Some words → (Drills (Some words) → ⊥) → IsKnown h.words
@@ -68,17 +67,12 @@ module _ {D C I : Type 0} (h : Handed D C I) where
   stop_tells ends added _ _ (full_serving size need serves inputs why) = five opened (serves_known h.words serves)
   stop_tells ends added _ _ (spent_serving last serves inputs why) = five opened (serves_known h.words serves)
   stop_tells ends added _ _ (of_worker halt serves inputs decides) = worker_tells halt serves
-  stop_tells ends added _ _ (lost messages message word some most) = eleven (subst Drills (sym word) tt)
 
   -- ---- its columns
 
   pub usage_only : (opening : Opening) (n : ℕ) → StatusTells h opening n → n ≡ 1 → h.words ≡ None
   usage_only _ _ (one none) e = none
   usage_only _ _ any e = absurd (omega (arith, e))
-
-  pub lost_only : (opening : Opening) (n : ℕ) → StatusTells h opening n → n ≡ 11 → Drills h.words
-  lost_only _ _ (eleven drills) e = drills
-  lost_only _ _ any e = absurd (omega (arith, e))
 
   pub disk_only : (opening : Opening) (n : ℕ) → StatusTells h opening n → n ≡ 4
       → OpensDisk h.words × DiskFailed h
@@ -104,28 +98,24 @@ module _ {D C I : Type 0} (h : Handed D C I) where
   usage_there _ _ (seven opening) x = inr refl
   usage_there _ _ (eight failed) x = absurd ((source_known h failed).said x)
   usage_there _ _ (ten opening known) x = absurd (known.said x)
-  usage_there _ _ (eleven drills) x = absurd (drills_said h.words drills x)
 
-  -- and where they are those of `drill` it stops for a lost message or for want of memory
-  pub drill_there : (opening : Opening) (n : ℕ) → StatusTells h opening n → Drills h.words
-      → (n ≡ 11) ⊎ (n ≡ 7)
+  -- and where they are those of `drill` it stops for that alone
+  pub drill_there : (opening : Opening) (n : ℕ) → StatusTells h opening n → Drills h.words → n ≡ 7
   drill_there _ _ (one none) x = absurd (drills_said h.words x none)
   drill_there _ _ (two known) x = absurd (known.other x)
   drill_there _ _ (three opening known) x = absurd (known.other x)
   drill_there _ _ (four opening opens failed) x = absurd ((opens_known h.words opens).other x)
   drill_there _ _ (five opening known) x = absurd (known.other x)
   drill_there _ _ (six known) x = absurd (known.other x)
-  drill_there _ _ (seven opening) x = inr refl
+  drill_there _ _ (seven opening) x = refl
   drill_there _ _ (eight failed) x = absurd ((source_known h failed).other x)
   drill_there _ _ (ten opening known) x = absurd (known.other x)
-  drill_there _ _ (eleven drills) x = inl refl
 
   pub early : (opening : Opening) (n : ℕ) → StatusTells h opening n → IsEarly n → opening ≡ uncalled
   early _ _ (one none) x = refl
   early _ _ (two known) x = refl
   early _ _ (six known) x = refl
   early _ _ (eight failed) x = refl
-  early _ _ (eleven drills) x = refl
   early _ _ any (inl x) = absurd (omega (arith, x))
   early _ _ any (inr (inl x)) = absurd (omega (arith, x))
   early _ _ any (inr (inr (inl x))) = absurd (omega (arith, x))

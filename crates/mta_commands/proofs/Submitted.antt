@@ -28,7 +28,7 @@ use Rattle.mta_commands.specs.Handed.{Handed, handed, ForDisk, ForTables, ForOpe
 use Rattle.mta_commands.specs.Inputs.{IsReadAsTables, AreTablesRead, HasTables, IsInputStop}
 use Rattle.mta_commands.specs.Inputs.{HasInput, HasInputs, no_tables, no_apdu, both}
 use Rattle.mta_output.specs.Output.{Output}
-use Rattle.mta_commands.specs.Output.{HasPrinted, stopped}
+use Rattle.mta_commands.specs.Output.{PrintsOrFails, stopped}
 use Rattle.mta_commands.specs.DiskLeft.{uncalled, refused, opened, DiskLeft}
 use Rattle.mta_commands.specs.Submit.{AreOwn, IsFullFor, IsSpentFor, IsAccepted, IsWorkStop, full, spent, disk, memory}
 use Rattle.mta_commands.specs.Submit.{IsAcceptedLine, HasWorked}
@@ -37,7 +37,7 @@ use Rattle.mta_commands.specs.Causes.{apdu as cause_apdu, memory as cause_memory
 use Rattle.mta_commands.specs.Causes.{full_opening as cause_full_opening, not_opened as cause_not_opened}
 use Rattle.mta_commands.specs.Causes.{disk as cause_disk, full as cause_full}
 use Rattle.mta_commands.specs.Causes.{spent as cause_spent}
-use Rattle.mta_commands.specs.Command.{IsSettled, SourcesLeft, HasEnded, NoneWorked}
+use Rattle.mta_commands.specs.Command.{NothingIsDue, SourcesLeft, HasEnded, NoneWorked}
 use Rattle.mta_commands.specs.Images.{IsSafeBefore}
 use Rattle.mta_commands.specs.Provenance.{AreOfCall, AreTablesOf}
 use Rattle.mta_commands.specs.Shows.{stop_of_open}
@@ -276,9 +276,9 @@ module _ {D C I : Type 0} (h : Handed D C I) (is : h.words ≡ Some Say.Submit) 
     there ok = has.adds.stands (λ e. ok_err (sym ok ∙ e)) base stands
 
     settled_there : result ≡ Ok tt → (f : List ℕ) (found steps : List Step) → h.disks.content h.disk.before ≡ Some f
-        → Opens f found steps → IsSettled (h.clocks.tells h.clock) (steps ++ has.added)
+        → Opens f found steps → NothingIsDue (h.clocks.tells h.clock) (steps ++ has.added)
     settled_there ok f found steps was s =
-        subst (λ (y : List Step). IsSettled (h.clocks.tells h.clock) (y ++ has.added)) (same f found steps was s)
+        subst (λ (y : List Step). NothingIsDue (h.clocks.tells h.clock) (y ++ has.added)) (same f found steps was s)
         (subst (λ (y : State). (told : ℕ) × h.clocks.tells h.clock told × IsQuiet y (step_moment told y.moment))
         (there ok).state_is (has.quiet ok))
 
@@ -299,7 +299,7 @@ work_failed disks tells conf input out old new result has e = failed_in result h
   disk_only _ w (disk r) = r
   disk_only _ w memory = absurd cc
 
-  failed_in : (r : Result (Unit {0}) Stop) → HasPrinted Why (IsAcceptedLine disks old has.added input) out r
+  failed_in : (r : Result (Unit {0}) Stop) → PrintsOrFails Why (IsAcceptedLine disks old has.added input) out r
       → r ≡ Err Stops.Disk → Rose (disks.faults old.journal.disk) (disks.faults new.journal.disk)
   failed_in _ (stopped stop why t f p) w = disk_only stop (err_same stop Stops.Disk w) why
   failed_in _ any1 w = absurd cc

@@ -18,7 +18,7 @@ use Rattle.mta_commands.specs.declared.stop.Stop.{Stop}
 use Rattle.mta_commands.specs.declared.stop.Stop.TheVariants as Stops
 use Rattle.mta_commands.specs.Lines.{accepted_line}
 use Rattle.mta_output.specs.Output.{Output, Prints, PrintsFront}
-use Rattle.mta_commands.specs.Output.{whole, stopped, cut, HasPrinted}
+use Rattle.mta_commands.specs.Output.{whole, stopped, cut, PrintsOrFails}
 use Rattle.mta_commands.specs.Submit.{AreInTurn, Adds, IsNextStep, tables, apdu, due}
 use Rattle.mta_commands.specs.Submit.{IsRefusal, IsAccepted, HasStored, HasSettled, HasAcknowledged, stop_of_step}
 use Rattle.mta_commands.specs.Submit.{IsWorkStop, full, spent, disk, memory, IsAcceptedLine, HasWorked}
@@ -174,11 +174,11 @@ module _ {D C : Type 0} (disks : DiskView D) (tells : ℕ → Type 0) (conf inpu
         (Rose (disks.faults old.journal.disk) (disks.faults new.journal.disk))
 
     unsaid : ((stop ≡ Stops.Memory) × (out.after ≡ out.before)) ⊎
-        ((stop ≡ Stops.Sink) × PrintsFront out (accepted_line n)) → HasPrinted Why
+        ((stop ≡ Stops.Sink) × PrintsFront out (accepted_line n)) → PrintsOrFails Why
         (IsAcceptedLine disks old has.added input) out (Err stop)
-    unsaid (inl m) = subst (λ (s : Stop). HasPrinted Why (IsAcceptedLine disks old has.added input) out (Err s))
+    unsaid (inl m) = subst (λ (s : Stop). PrintsOrFails Why (IsAcceptedLine disks old has.added input) out (Err s))
         (sym m.0) (stopped Stops.Memory memory [] (inl refl) (prints_nothing out m.1))
-    unsaid (inr s) = subst (λ (x : Stop). HasPrinted Why (IsAcceptedLine disks old has.added input) out (Err x))
+    unsaid (inr s) = subst (λ (x : Stop). PrintsOrFails Why (IsAcceptedLine disks old has.added input) out (Err x))
         (sym s.0) (cut (accepted_line n) text s.1)
 
   -- what settling adds behind it

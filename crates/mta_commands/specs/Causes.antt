@@ -1,5 +1,5 @@
 -- What a command prints, and why a run stops without it.
-use Rattle.std.specs.Prelude.{◌≡◌, ◌≢◌, ◌^◌, ℕ, ◌<◌, ◌≤◌, List, ◌++◌, All, Option, None, Some, Ok}
+use Rattle.std.specs.Prelude.{◌≡◌, ◌≢◌, ◌^◌, ℕ, ◌<◌, List, ◌++◌, All, Option, None, Some, Ok}
 use Rattle.std.specs.Prelude.{length, option_and_then}
 use Rattle.mta_ber.specs.declared.fault.Kind.{Kind}
 use Rattle.mta_records.specs.declared.step.Step.{Step}
@@ -75,7 +75,7 @@ pub data IsText {D C I : Type 0} (h : Handed D C I) (ends : List WorkerEnd) (add
 
 -- Why a run stopped so, behind these added steps, and how far it had come with the disk. Each cause is met in its
 -- place: the words, the tables, the input, opening, the steps. Want of memory alone needs no cause. A fault of the
--- output has no line, so it is none of these. That a message is lost comes only from a drill of as many messages.
+-- output has no line, so it is none of these.
 pub data Cause {D C I : Type 0} (h : Handed D C I) (ends : List WorkerEnd) (added : List Step) : Opening → Stop
     → Type 0 where
   usage : h.words ≡ None → Cause h ends added uncalled Stops.Usage
@@ -116,5 +116,3 @@ pub data Cause {D C I : Type 0} (h : Handed D C I) (ends : List WorkerEnd) (adde
       → Cause h ends added opened (Stops.Spent last)
   of_worker : (halt : Halt) → Serves h.words → InputsRead h → Decides (halts_of ends) halt
       → Cause h ends added opened (stop_of_halt halt)
-  lost : (messages message : ℕ) → h.words ≡ Some (Say.Drill messages) → 1 ≤ message → message ≤ messages
-      → Cause h ends added uncalled (Stops.Lost message)

@@ -1,5 +1,5 @@
 -- What a command leaves.
-use Rattle.std.specs.Prelude.{◌≡◌, ℕ, List, [], ◌++◌, Some, Result, Ok}
+use Rattle.std.specs.Prelude.{◌≡◌, ℕ, List, [], ◌++◌, Result, Ok}
 use Rattle.mta_records.specs.declared.step.Step.{Step}
 use Rattle.mta_apdu.specs.Apdus.{longest_apdu}
 use Rattle.mta_histories.specs.Due.{IsQuiet}
@@ -12,7 +12,7 @@ use Rattle.mta_commands.specs.declared.stop.Stop.{Stop}
 use Rattle.mta_commands.specs.Words.{AddsSteps, ReadsTables, ReadsApdu, OpensDisk, Serves}
 use Rattle.mta_commands.specs.Handed.{Handed, ForTables, ForInput, ForOpened, ForOpenedDisk}
 use Rattle.mta_output.specs.Output.{Output}
-use Rattle.mta_commands.specs.Output.{HasPrinted}
+use Rattle.mta_commands.specs.Output.{PrintsOrFails}
 use Rattle.mta_commands.specs.Inputs.{longest_tables, IsDrawn}
 use Rattle.mta_commands.specs.DiskLeft.{Opening, uncalled, DiskLeft}
 use Rattle.mta_commands.specs.Images.{IsSafeBefore}
@@ -21,8 +21,8 @@ use Rattle.mta_commands.specs.Submit.{AreOwn, AreInTurn}
 use Rattle.mta_commands.specs.Causes.{Cause, IsText}
 
 -- nothing is due after these steps, at a moment that is the greater of their last one and one that the clock tells
-abbrev pub IsSettled : (ℕ → Type 0) → List Step → Type 0
-IsSettled tells steps = (told : ℕ) × tells told × IsQuiet (after steps) (step_moment told (after steps).moment)
+abbrev pub NothingIsDue : (ℕ → Type 0) → List Step → Type 0
+NothingIsDue tells steps = (told : ℕ) × tells told × IsQuiet (after steps) (step_moment told (after steps).moment)
 
 -- What becomes of the sources: one that the command does not read is the same, and no more is taken of one than
 -- shows that it is too long.
@@ -53,7 +53,7 @@ pub record HasEnded {D C I : Type 0} (h : Handed D C I) (stations : OnStations) 
   -- before the first sync a crash leaves what one before the call might have left: of `serve` this is not told
   pub safe_before : (Serves h.words → ⊥)
       → ForOpenedDisk h (λ f steps. IsSafeBefore h.disks f steps (added ++ torn_step) h.disk.before h.disk.after)
-  pub printed : HasPrinted (Cause h ends added opening) (IsText h ends added opening) out result
+  pub printed : PrintsOrFails (Cause h ends added opening) (IsText h ends added opening) out result
   pub history : ForOpened h (λ steps. IsHistory (steps ++ (added ++ torn_step)))
   pub own : (Serves h.words → ⊥) → ForTables h (λ c. ForInput h (λ i. ForOpened h (λ steps.
       AreOwn (h.clocks.tells h.clock) c i (after steps) (added ++ torn_step))))
@@ -62,7 +62,7 @@ pub record HasEnded {D C I : Type 0} (h : Handed D C I) (stations : OnStations) 
   pub only_adding : (AddsSteps h.words → ⊥) → added ++ torn_step ≡ []
   pub calm : result ≡ Ok tt → torn_step ≡ []
   pub settled : AddsSteps h.words → result ≡ Ok tt
-      → ForOpened h (λ steps. IsSettled (h.clocks.tells h.clock) (steps ++ added))
+      → ForOpened h (λ steps. NothingIsDue (h.clocks.tells h.clock) (steps ++ added))
   pub recorded : AddsSteps h.words → result ≡ Ok tt
       → ForTables h (λ c. ForOpened h (λ steps. IsRecorded (after (steps ++ added)) c))
   pub undecided : result ≡ Ok tt → IsUndecided (halts_of ends)

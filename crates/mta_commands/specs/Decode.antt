@@ -7,7 +7,7 @@ use Rattle.mta_apdu_text.specs.Apdus.{apdu_text}
 use Rattle.mta_commands.specs.declared.stop.Stop.{Stop}
 use Rattle.mta_commands.specs.Inputs.{IsDrawn, IsInputStop}
 use Rattle.mta_output.specs.Output.{Output}
-use Rattle.mta_commands.specs.Output.{HasPrinted}
+use Rattle.mta_commands.specs.Output.{PrintsOrFails}
 
 -- the text of the APDU that octets spell, or why there is none
 abbrev pub IsDecodedAs : List ℕ → Result (List ℕ) Stop → Type 0
@@ -23,5 +23,5 @@ IsApduText input text =
 pub record HasDecoded {I : Type 0} (sources : SourceView I) (old new : I) (out : Output) (result
     : Result (Unit {0}) Stop) : Type 0 where
   pub drawn : IsDrawn sources longest_apdu old new
-  pub printed : HasPrinted (IsInputStop (sources.left old) (Rose (sources.faults old) (sources.faults new)))
+  pub printed : PrintsOrFails (IsInputStop (sources.left old) (Rose (sources.faults old) (sources.faults new)))
       (IsApduText (sources.left old)) out result

@@ -51,7 +51,6 @@ line_of Stops.Sink = []
 line_of (Stops.NoMailbox name) = codes "no such mailbox " ++ (name ++ 10 ∷ [])
 line_of (Stops.NoPeer name) = codes "no such peer " ++ (name ++ 10 ∷ [])
 line_of (Stops.BadApdu at kind) = codes "bad APDU at " ++ (decimal at ++ (32 ∷ fault_text kind ++ 10 ∷ []))
-line_of (Stops.Lost message) = codes "message " ++ (decimal message ++ codes " is lost\n")
 
 -- the status of a stop
 abbrev pub status_of : Stop → ℕ
@@ -67,4 +66,3 @@ status_of Stops.Sink = 9
 status_of (Stops.NoMailbox name) = 10
 status_of (Stops.NoPeer name) = 10
 status_of (Stops.BadApdu at kind) = 6
-status_of (Stops.Lost message) = 11

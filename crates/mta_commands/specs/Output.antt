@@ -1,7 +1,7 @@
 -- What is printed.
 use Rattle.std.specs.Prelude.{◌≡◌, ◌≢◌, ◌⊎◌, ℕ, List, [], ◌++◌, Result, Ok, Err}
 use Rattle.mta_ber.specs.declared.memory.Memory.{Memory}
-use Rattle.mta_output.specs.Output.{Output, Prints, PrintsFront}
+use Rattle.mta_output.specs.Output.{Output, Prints, PrintsFront, HasToldLine}
 use Rattle.mta_commands.specs.declared.stop.Stop.{Stop}
 use Rattle.mta_commands.specs.declared.stop.Stop.TheVariants as Stops
 use Rattle.mta_commands.specs.Lines.{line_of, status_of}
@@ -12,13 +12,13 @@ IsFront IsText text = (text ≡ []) ⊎ IsText text
 
 -- What a command printed before its last line: its text; or nothing or its text, and then it stopped, for a cause;
 -- or a front of its text, where the output failed.
-pub data HasPrinted (Cause : Stop → Type 0) (IsText : List ℕ → Type 0) (out : Output) : Result (Unit {0}) Stop
+pub data PrintsOrFails (Cause : Stop → Type 0) (IsText : List ℕ → Type 0) (out : Output) : Result (Unit {0}) Stop
     → Type 0 where
   whole : (done : Unit {0}) (text : List ℕ) → IsText text → Prints out text
-      → HasPrinted Cause IsText out (Ok done)
+      → PrintsOrFails Cause IsText out (Ok done)
   stopped : (stop : Stop) → Cause stop → (text : List ℕ) → IsFront IsText text → Prints out text
-      → HasPrinted Cause IsText out (Err stop)
-  cut : (text : List ℕ) → IsText text → PrintsFront out text → HasPrinted Cause IsText out (Err Stops.Sink)
+      → PrintsOrFails Cause IsText out (Err stop)
+  cut : (text : List ℕ) → IsText text → PrintsFront out text → PrintsOrFails Cause IsText out (Err Stops.Sink)
 
 -- What a run printed, and its status. With status 0 it is the text. Else it is the line of a stop that has its
 -- cause and that status, behind nothing or the text. With status 9, which takes over where the output failed, one
@@ -34,21 +34,14 @@ pub data IsEnded (Cause : Stop → Type 0) (IsText : List ℕ → Type 0) (out :
       → PrintsFront out (text ++ line_of stop)
       → IsEnded Cause IsText out status
 
--- what telling a line with its status leaves: both, or those of want of memory, or a front of one of these lines and 9
-pub data Tells (text : List ℕ) (good : ℕ) (out : Output) (status : ℕ) : Type 0 where
-  line : status ≡ good → Prints out text → Tells text good out status
-  short : status ≡ 7 → Prints out (line_of Stops.Memory) → Tells text good out status
-  failed : status ≡ 9 → PrintsFront out text → Tells text good out status
-  short_failed : status ≡ 9 → PrintsFront out (line_of Stops.Memory) → Tells text good out status
-
 -- what telling a line leaves that was made, or for which there was no memory
 abbrev pub TellsLine : Result (List ℕ) Memory → ℕ → Output → ℕ → Type 0
-TellsLine (Ok text) good out status = Tells text good out status
-TellsLine (Err m) good out status = (text : List ℕ) → Tells text good out status
+TellsLine (Ok text) good out status = HasToldLine text (line_of Stops.Memory) good out status
+TellsLine (Err m) good out status = (text : List ℕ) → HasToldLine text (line_of Stops.Memory) good out status
 
 -- what telling a stop leaves
 abbrev pub HasTold : Stop → Output → ℕ → Type 0
-HasTold stop out status = Tells (line_of stop) (status_of stop) out status
+HasTold stop out status = HasToldLine (line_of stop) (line_of Stops.Memory) (status_of stop) out status
 
 -- what the end of a run adds to what its command printed: nothing with 0, nothing with 9 where the output failed
 -- already, or a stop is told

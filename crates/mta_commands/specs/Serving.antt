@@ -22,7 +22,7 @@ use Rattle.mta_spool.specs.Moments.{IsTimed}
 use Rattle.mta_commands.specs.declared.stop.Stop.{Stop}
 use Rattle.mta_commands.specs.declared.stop.Stop.TheVariants as Stops
 use Rattle.mta_output.specs.Output.{Output, Prints, PrintsFront}
-use Rattle.mta_commands.specs.Output.{HasPrinted}
+use Rattle.mta_commands.specs.Output.{PrintsOrFails}
 use Rattle.mta_commands.specs.Submit.{Adds, AreInTurn, HasSettled, stop_of_step}
 
 -- ---- steps of its own
@@ -129,5 +129,5 @@ pub record HasFinished {D C : Type 0} (disks : DiskView D) (tells : ℕ → Type
     (out : Output) (old new : Shown D C) (result : Result (Unit {0}) Stop) : Type 0 where
   pub settled : Result (Unit {0}) StepFault
   pub behind : SettlesBehind disks tells old new settled
-  pub printed : HasPrinted (IsFinishStop settled ends) (λ text. text ≡ station_lines ends) out result
+  pub printed : PrintsOrFails (IsFinishStop settled ends) (λ text. text ≡ station_lines ends) out result
   pub well : result ≡ Ok tt → (settled ≡ Ok tt) × IsUndecided (halts_of ends)

@@ -14,7 +14,7 @@ use Rattle.mta_commands.specs.declared.stop.Stop.TheVariants as Stops
 use Rattle.mta_words.specs.declared.words.Words.{Words}
 use Rattle.mta_words.specs.declared.words.Words.TheVariants as Say
 use Rattle.mta_output.specs.Output.{Output}
-use Rattle.mta_commands.specs.Output.{HasPrinted}
+use Rattle.mta_commands.specs.Output.{PrintsOrFails}
 use Rattle.mta_commands.specs.DiskLeft.{Opening, refused, opened, DiskLeft}
 use Rattle.mta_commands.specs.Images.{IsSafeBefore}
 use Rattle.mta_commands.specs.Causes.{mailbox_named, queue_of, mailbox_of}
@@ -71,4 +71,4 @@ pub record HasShownSpool {D : Type 0} (disks : DiskView D) (words : Words) (out 
   pub disk : DiskLeft disks old new opening [] []
   pub safe_before : (f : List ℕ) (found steps : List Step) → disks.content old ≡ Some f → Opens f found steps
       → IsSafeBefore disks f steps [] old new
-  pub printed : HasPrinted (IsShownStop disks words old new opening) (IsShownText disks words old opening) out result
+  pub printed : PrintsOrFails (IsShownStop disks words old new opening) (IsShownText disks words old opening) out result

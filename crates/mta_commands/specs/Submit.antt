@@ -23,7 +23,7 @@ use Rattle.mta_commands.specs.declared.stop.Stop.TheVariants as Stops
 use Rattle.mta_spool.specs.Crashing.{Leaves}
 use Rattle.mta_commands.specs.Lines.{accepted_line}
 use Rattle.mta_output.specs.Output.{Output, Prints, PrintsFront}
-use Rattle.mta_commands.specs.Output.{HasPrinted}
+use Rattle.mta_commands.specs.Output.{PrintsOrFails}
 
 -- ---- whose the steps are
 
@@ -251,7 +251,7 @@ pub record HasWorked {D C : Type 0} (disks : DiskView D) (tells : ℕ → Type 0
   pub torn_step : List Step
   pub adds : Adds disks tells conf input old new added torn_step (result ≡ Err Stops.Disk)
   pub in_turn : AreInTurn 0 (added ++ torn_step)
-  pub printed : HasPrinted (IsWorkStop tells conf input added new.current new.journal.size (Rose
+  pub printed : PrintsOrFails (IsWorkStop tells conf input added new.current new.journal.size (Rose
       (disks.faults old.journal.disk) (disks.faults new.journal.disk)))
       (IsAcceptedLine disks old added input) out result
   pub quiet : result ≡ Ok tt

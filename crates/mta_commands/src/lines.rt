@@ -118,11 +118,6 @@ fn line_of(alloc: Global, stop: &Stop) -> Result<Octets, Memory>
             put_number(&mut line, u64::from(*at))?;
             put_last_word(&mut line, fault_text(*kind))?;
         }
-        Stop::Lost { message } => {
-            line.extend(b"message ")?;
-            put_number(&mut line, u64::from(*message))?;
-            line.extend(b" is lost\n")?;
-        }
     }
     Ok(line)
 }
@@ -142,7 +137,6 @@ fn status_of(stop: &Stop) -> u8
         Stop::Source => 8,
         Stop::Sink => 9,
         Stop::NoMailbox(_) | Stop::NoPeer(_) => 10,
-        Stop::Lost { .. } => 11,
     }
 }
 

@@ -40,8 +40,6 @@ pub enum Stop {
     NoPeer(Word),
     /// The input is no APDU, for this first fault at this offset.
     BadApdu { at: u32, kind: Kind },
-    /// A drill lost this message.
-    Lost { message: u32 },
 }
 
 /// Why octets were not read as an APDU.

@@ -1,6 +1,6 @@
 -- What the spools hold, message by message.
-use Rattle.std.proofs.Common.{◌≡◌, ℕ, suc, ◌+◌, ◌<◌, ◌≤◌, List, Option, Some, length, get_or, refl, sym, ap}
-use Rattle.std.proofs.Common.{subst, ◌∙◌, arith, inl, inr}
+use Rattle.std.proofs.Common.{◌≡◌, ℕ, suc, ◌+◌, ◌<◌, ◌≤◌, List, Option, Some, length, get_or}
+use Rattle.std.proofs.Common.{refl, sym, ap, subst, ◌∙◌, arith, inl, inr}
 use Rattle.std.proofs.lemmas.Bool.{cases_lt}
 use Rattle.std.proofs.lemmas.Option.{slice_get_read}
 use Rattle.mta_machine.specs.Items.{ItemValue, numbered}
@@ -31,7 +31,21 @@ at_place xs n x y within is found =
     let e : n + 1 ≡ suc n = omega arith in
     some_is x y (sym (slice_get_read xs (length xs) n x refl within is) ∙ subst (λ m. numbered xs m ≡ Some y) e found)
 
+-- it stands there
+found_at : {A : Type 0} (xs : List A) (n : ℕ) (x : A) → n < length xs → x ≡ get_or xs n x
+    → numbered xs (n + 1) ≡ Some x
+found_at xs n x within is =
+    let e : n + 1 ≡ suc n = omega arith in
+    subst (λ m. numbered xs m ≡ Some x) (sym e) (slice_get_read xs (length xs) n x refl within is)
+
 -- ---- those that were sent
+
+-- of all that were, the one of this place was
+pub is_sent_at : (items : List ItemValue) (before count n : ℕ) (x : ItemValue) → n < count → AreSent items before count
+    → n < length items → x ≡ get_or items n x → IsSent x (before + n + 1)
+is_sent_at items before count n x under all within is =
+    let e : before + (n + 1) ≡ before + n + 1 = omega arith in
+    subst (λ m. IsSent x m) e (all (n + 1) x (omega (arith, under)) (found_at items n x within is))
 
 pub one_sent : (items : List ItemValue) (before n : ℕ) (x : ItemValue) → n < length items → x ≡ get_or items n x
     → IsSent x (before + n + 1) → AreSent items before n → AreSent items before (n + 1)
@@ -42,6 +56,25 @@ one_sent items before n x within is sent all k item le found =
     (subst (λ m. IsSent x m) e sent)) k item le found
 
 -- ---- those that were delivered
+
+pub is_message_at : (items : List ItemValue) (before n : ℕ) (x : ItemValue) → AreMessages items before (n + 1)
+    → n < length items → x ≡ get_or items n x → IsMessage x.octets (before + n + 1)
+is_message_at items before n x all within is =
+    let e : before + (n + 1) ≡ before + n + 1 = omega arith in
+    subst (λ m. IsMessage x.octets m) e (all (n + 1) x (omega arith) (found_at items n x within is))
+
+pub is_delivery_at : (lines : List MailboxLine) (n : ℕ) (x : MailboxLine) → AreDeliveries lines (n + 1)
+    → n < length lines → x ≡ get_or lines n x → IsDelivery (n + 1) x
+is_delivery_at lines n x all within is = all (n + 1) x (omega arith) (found_at lines n x within is)
+
+-- of all that are, the first ones are
+pub fewer_messages : (items : List ItemValue) (before count n : ℕ) → n < count → AreMessages items before count
+    → AreMessages items before (n + 1)
+fewer_messages items before count n under all k item le found = all k item (omega (arith, under, le)) found
+
+pub fewer_deliveries : (lines : List MailboxLine) (count n : ℕ) → n < count → AreDeliveries lines count
+    → AreDeliveries lines (n + 1)
+fewer_deliveries lines count n under all k line le found = all k line (omega (arith, under, le)) found
 
 module _ (items : List ItemValue) (lines : List MailboxLine) (before n size : ℕ)
     (d : IsDeliveredAt items lines before (n + 1) size) where

@@ -3,3 +3,15 @@ pub mod Counted
 pub mod Reopened
 pub mod Summing
 pub mod Telling
+pub mod Acting
+pub mod Going
+pub mod Running
+pub mod Calling
+pub mod Opening
+pub mod Ending
+pub mod Staying
+pub mod Again
+pub mod Holding
+pub mod Settling
+pub mod Starting
+pub mod Meeting

@@ -12,8 +12,8 @@ use Rattle.mta_machine.specs.Items.{ItemValue, Machine, numbered}
 use Rattle.mta_histories.specs.History.{after}
 use Rattle.mta_images.specs.Image.{StandsFor}
 use Rattle.mta_drill_text.specs.Text.{content_length}
-use Rattle.mta_drill.specs.Messages.{content_of, identifier_of}
-use Rattle.mta_drill.specs.Tables.{mailbox}
+use Rattle.mta_drill_laws.specs.Messages.{content_of, identifier_of}
+use Rattle.mta_drill_laws.specs.Tables.{mailbox}
 
 -- ---- an item
 

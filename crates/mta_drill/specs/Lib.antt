@@ -1,7 +1,8 @@
-pub mod Messages
-pub mod Breaks
-pub mod Tables
 pub mod Held
-pub mod Faults
 pub mod Sides
+pub mod Acts
+pub mod Runs
+pub mod Calls
+pub mod Worked
 pub mod Rounds
+pub mod Laws

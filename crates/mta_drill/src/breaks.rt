@@ -4,11 +4,12 @@
 //! place is reached (`break_of`), once in its activity.
 
 ghost use Rattle.std.specs.Prelude.{◌≡◌, ◌↔◌, ℕ, IfSome, IsTrue, None, Some, false};
-ghost use Rattle.mta_drill.specs.Breaks.{IsDue, IsDueIn, IsReached, one_more};
+ghost use Rattle.mta_drill_stage_laws.specs.Breaks.{IsDue, IsDueIn, IsReached, one_more};
 ghost use Rattle.mta_drill_text.specs.declared.breaks.Break.{Break as BreakValue};
 
 use mta_drill_text::{Break, break_of};
 use mta_session::Ask;
+use std::marker::Model;
 
 // The place that is reached with a step which a session asks for, and the activity; none where it is none.
 fn place_of(ask: &Ask) -> Option<(Break, u32)>
@@ -34,6 +35,14 @@ pub(crate) struct Breaks {
     before: u32,
     last: u32,
     made: u32,
+}
+
+impl Model for Breaks {
+    ghost use Rattle.mta_drill_stage_laws.specs.Breaks.{Breaks as BreaksValue};
+
+    ghost Value = { BreaksValue };
+
+    ghost view = { λ b. record { before = b.before; last = b.last; made = b.made } };
 }
 
 impl Breaks {

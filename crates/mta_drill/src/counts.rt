@@ -1,25 +1,24 @@
 //! What two spools hold of the messages of a round.
 //!
 //! In come the spools as they were opened again, how many messages were before, how many the round has, and how often
-//! the link was broken. Out go the counts where each message is the item of its number at both agents, sent by the
-//! first and delivered to watt by the second, and nothing else is there; else the first message that is not.
+//! the link was broken. Out go the counts: of the messages that are the items of their numbers at both agents, sent by
+//! the first and delivered to watt by the second.
 
-ghost use Rattle.std.specs.Prelude.{◌≡◌, ◌≤◌, ◌<◌, ◌+◌, ◌^◌, ◌↔◌, IfErr, IfOk, IfSome, IsTrue, length, true};
-ghost use Rattle.mta_envelope.specs.Messages.{message_value};
-ghost use Rattle.mta_drill.specs.Messages.{content_of, identifier_of};
+ghost use Rattle.std.specs.Prelude.{◌≡◌, ◌≢◌, ◌≤◌, ◌<◌, ◌+◌, ◌^◌, ◌↔◌, IfOk, IfSome, IsTrue, None, length};
+ghost use Rattle.mta_envelope.specs.Messages.{MessageValue, message_value};
+ghost use Rattle.mta_drill_laws.specs.Messages.{content_of, identifier_of};
 ghost use Rattle.mta_drill_text.specs.Text.{content_length, octets_up_to};
 ghost use Rattle.mta_drill.specs.Held.{AreDeliveries, AreMessages, AreSent, HoldsDelivered, HoldsSent, IsDelivery};
-ghost use Rattle.mta_drill.specs.Held.{IsDeliveredAt, IsMessage, IsNamed, IsRead, IsSent, IsSentOn};
-ghost use Rattle.mta_drill.specs.Faults.{IsOneOf};
+ghost use Rattle.mta_drill.specs.Held.{IsDeliveredAt, IsMessage, IsRead, IsSent, IsSentOn};
 ghost use Rattle.mta_drill.specs.Rounds.{IsWhole};
+ghost use Rattle.mta_drill.specs.Worked.{AreBreaksOf};
 
-use crate::fault::DrillFault;
+use crate::agent::Agent;
 use crate::message::{content_of, identifier_of};
-use crate::round::Agent;
 use crate::tables::is_mailbox;
 use mta_apdu::Apdu;
 use mta_ber::{Memory, ReadFault};
-use mta_drill_text::{Counts, breaks_between};
+use mta_drill_text::Counts;
 use mta_envelope::Message;
 use mta_spool::{Item, MailboxLine, Status};
 use std::alloc::Global;
@@ -51,7 +50,8 @@ fn has_content(alloc: Global, found: &Message<'_>, message: u32) -> Result<bool,
 // The message that an item is; none where it is none.
 #[tactic(auto, unfolding(mta_machine::specs::Apdu::value_of))]
 fn message_in<'a>(alloc: Global, item: &'a Item) -> Result<Option<Message<'a>>, Memory>
-    ensures { IfOk result (λ o. IfSome o (λ m. IsRead item.now.octets (message_value m))) }
+    ensures some { IfOk result (λ o. IfSome o (λ m. IsRead item.now.octets (message_value m))) }
+    ensures none { IfOk result (λ o. o ≡ None → (v : MessageValue) → IsRead item.now.octets v → ⊥) }
 {
     match Apdu::read_stored(alloc, item.octets()) {
         Ok(Apdu::Message(found)) => Ok(Some(found)),
@@ -76,7 +76,7 @@ fn is_sent_on(statuses: &[Option<Status>]) -> bool
 
 // Whether an item is this message of the drill, and was sent.
 fn is_sent(alloc: Global, item: &Item, message: u32) -> Result<bool, Memory>
-    ensures { IfOk result (λ b. b ≡ true → IsSent item.now message) }
+    ensures { IfOk result (λ b. IsTrue b ↔ IsSent item.now message) }
 {
     if !is_sent_on(item.statuses()) {
         return Ok(false);
@@ -89,8 +89,9 @@ fn is_sent(alloc: Global, item: &Item, message: u32) -> Result<bool, Memory>
 
 // How many octets the content has of an item that is this message of the drill, with its content; none where it is not.
 fn octets_of(alloc: Global, item: &Item, message: u32) -> Result<Option<u64>, Memory>
-    ensures { IfOk result (λ o. IfSome o
+    ensures some { IfOk result (λ o. IfSome o
         (λ n. IsMessage item.now.octets message × (n ≡ content_length message))) }
+    ensures none { IfOk result (λ o. o ≡ None → IsMessage item.now.octets message → ⊥) }
 {
     let Some(found) = message_in(alloc, item)? else {
         return Ok(None);
@@ -114,6 +115,7 @@ fn sent_in(alloc: Global, items: &[Item], before: u32, count: u32) -> Result<u32
     requires fits { before + count < 2 ^ 32 }
     ensures most { IfOk result (λ n. n ≤ count) }
     ensures sent { IfOk result (λ n. AreSent items.now before n) }
+    ensures all { count ≤ length items.now → AreSent items.now before count → IfOk result (λ n. n ≡ count) }
 {
     for place in 0..count {
         let Some(item) = items.get(place as usize) else {
@@ -136,7 +138,10 @@ fn delivered_at(
     place: u32,
 ) -> Result<Option<u64>, Memory>
     requires fits { before + place + 1 < 2 ^ 32 }
-    ensures { IfOk result (λ o. IfSome o (IsDeliveredAt items.now lines.now before (place + 1))) }
+    ensures some { IfOk result (λ o. IfSome o (IsDeliveredAt items.now lines.now before (place + 1))) }
+    ensures none { place < length items.now → place < length lines.now
+        → AreMessages items.now before (place + 1) → AreDeliveries lines.now (place + 1)
+        → IfOk result (λ o. o ≢ None) }
 {
     match (items.get(place as usize), lines.get(place as usize)) {
         (Some(item), Some(line)) => {
@@ -163,6 +168,8 @@ fn delivered_in(
     ensures messages { IfOk result (λ d. AreMessages items.now before d.messages) }
     ensures deliveries { IfOk result (λ d. AreDeliveries lines.now d.messages) }
     ensures octets { IfOk result (λ d. d.octets + octets_up_to before ≡ octets_up_to (before + d.messages)) }
+    ensures all { count ≤ length items.now → count ≤ length lines.now → AreMessages items.now before count
+        → AreDeliveries lines.now count → IfOk result (λ d. d.messages ≡ count) }
 {
     let mut octets = 0;
     for place in 0..count {
@@ -182,32 +189,8 @@ fn delivered_in(
     })
 }
 
-// Whether these are all items, and each was sent.
-fn are_all_sent(items: &[Item], sent: u32, count: u32) -> bool
-    ensures { result ≡ true → (length items.now ≡ count) × (sent ≡ count) }
-{
-    items.len() == count as usize && sent == count
-}
-
-// Whether these are all items and all deliveries, and each was delivered.
-fn are_all_delivered(items: &[Item], lines: &[MailboxLine], delivered: u32, count: u32) -> bool
-    ensures { result ≡ true → (length items.now ≡ count) × (length lines.now ≡ count) × (delivered ≡ count) }
-{
-    items.len() == count as usize && lines.len() == count as usize && delivered == count
-}
-
-// The first message of a round that was not sent or not delivered; the last one where each was, but not these alone.
-fn lost(before: u32, count: u32, sent: u32, delivered: u32) -> DrillFault
-    requires some { 1 ≤ count }
-    requires fits { before + count < 2 ^ 32 }
-    ensures { IsOneOf (before + 1) (before + count) result }
-{
-    DrillFault::Lost {
-        message: before + sent.min(delivered).min(count - 1) + 1,
-    }
-}
-
-/// The counts of a round whose messages were sent and delivered once, in order.
+/// The counts of a round: how many messages the first agent took, how many of them it sent, each at its number, and how
+/// many were delivered by the second one, once and in order.
 pub(crate) fn counted(
     alloc: Global,
     first: &Agent,
@@ -215,33 +198,21 @@ pub(crate) fn counted(
     before: u32,
     count: u32,
     broken: u32,
-) -> Result<Counts, DrillFault>
-    requires some { 1 ≤ count }
+) -> Result<Counts, Memory>
     requires fits { before + count < 2 ^ 32 }
-    ensures whole { IfOk result (λ c. IsWhole c before count) }
-    ensures sent { IfOk result (λ c. HoldsSent first.now.current.machine before count) }
-    ensures delivered { IfOk result (λ c. HoldsDelivered second.now.current.machine before count) }
-    ensures lost { IfErr result (IsOneOf (before + 1) (before + count)) }
+    ensures accepted { IfOk result (λ c. c.accepted ≡ length first.now.current.machine.items) }
+    ensures transferred { IfOk result (λ c. AreSent first.now.current.machine.items before c.transferred) }
+    ensures delivered { IfOk result (λ c. AreMessages second.now.current.machine.items before c.delivered
+        × AreDeliveries second.now.current.machine.mailboxes c.delivered) }
+    ensures broken { IfOk result (λ c. c.broken ≡ broken) }
+    ensures whole { HoldsSent first.now.current.machine before count
+        → HoldsDelivered second.now.current.machine before count → AreBreaksOf before count broken
+        → IfOk result (λ c. IsWhole c before count) }
 {
     let sent = sent_in(alloc, first.items(), before, count)?;
     let delivered = delivered_in(alloc, second.items(), second.mailboxes(), before, count)?;
-    let fault = lost(before, count, sent, delivered.messages);
-    if !are_all_sent(first.items(), sent, count) {
-        return Err(fault);
-    }
-    if !are_all_delivered(
-        second.items(),
-        second.mailboxes(),
-        delivered.messages,
-        count,
-    ) {
-        return Err(fault);
-    }
-    if broken != breaks_between(before, count) {
-        return Err(fault);
-    }
     Ok(Counts {
-        accepted: u64::from(count),
+        accepted: first.items().len() as u64,
         transferred: u64::from(sent),
         delivered: u64::from(delivered.messages),
         broken: u64::from(broken),

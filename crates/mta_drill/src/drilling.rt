@@ -2,15 +2,13 @@
 //!
 //! In come how many messages are passed, and two empty disks in memory. Rounds of 1,000 messages, of which the last may
 //! have fewer, are passed by two fresh agents each; the agents of the last one stand on the disks that were handed in.
-//! Out go the text and those disks.
+//! Out go the text and those disks, or that memory is wanted: nothing else refuses a drill.
 
-ghost use Rattle.std.specs.Prelude.{◌≡◌, ◌≤◌, ◌<◌, ◌*◌, ◌^◌, [], IfErr, IfOk};
-ghost use Rattle.mta_drill.specs.Faults.{IsOneOf};
+ghost use Rattle.std.specs.Prelude.{◌≡◌, ◌≤◌, ◌<◌, ◌*◌, ◌^◌, [], IfOk};
 ghost use Rattle.mta_drill.specs.Rounds.{HasDrilled, IsWhole, round_size};
 
-use crate::fault::DrillFault;
 use crate::round::{Round, run_round};
-use mta_ber::Octets;
+use mta_ber::{Memory, Octets};
 use mta_drill_text::{Counts, drill_text};
 use mta_edge::SafeDisk;
 use std::alloc::Global;
@@ -34,10 +32,9 @@ fn empty_disk(alloc: Global) -> SafeDisk
 }
 
 // The rounds but the last, of 1,000 messages each: what they come to.
-fn earlier(alloc: Global, rounds: u32) -> Result<Counts, DrillFault>
+fn earlier(alloc: Global, rounds: u32) -> Result<Counts, Memory>
     requires fits { rounds * round_size < 2 ^ 32 }
-    ensures whole { IfOk result (λ c. IsWhole c 0 (rounds * round_size)) }
-    ensures lost { IfErr result (IsOneOf 1 (rounds * round_size)) }
+    ensures { IfOk result (λ c. IsWhole c 0 (rounds * round_size)) }
 {
     let mut counts = Counts::new();
     for place in 0..rounds {
@@ -59,12 +56,11 @@ pub fn drill(
     messages: u32,
     first: SafeDisk,
     second: SafeDisk,
-) -> Result<Drilled, DrillFault>
+) -> Result<Drilled, Memory>
     requires some { 1 ≤ messages }
     requires first { first.octets ≡ [] }
     requires second { second.octets ≡ [] }
-    ensures drilled { IfOk result (HasDrilled messages) }
-    ensures lost { IfErr result (IsOneOf 1 messages) }
+    ensures { IfOk result (HasDrilled messages) }
 {
     let rounds = (messages - 1) / ROUND;
     let counts = earlier(alloc, rounds)?;

@@ -2,11 +2,11 @@
 //! afterwards is counted.
 #![tactic(auto)]
 
+mod agent;
 mod breaks;
 mod counts;
 mod drilling;
-mod fault;
-mod link;
+mod laws;
 mod message;
 mod round;
 mod session;
@@ -14,4 +14,4 @@ mod side;
 mod tables;
 
 pub use drilling::{Drilled, drill};
-pub use fault::DrillFault;
+pub use laws::sessions_come_to_an_end;

@@ -7,8 +7,8 @@
 ghost use Rattle.std.specs.Prelude.{◌≡◌, ◌≤◌, ◌+◌, ◌<◌, ◌^◌, IfOk, OnOk, length};
 ghost use Rattle.mta_ber.specs.Canon.{appended};
 ghost use Rattle.mta_drill_text.specs.Text.{content_length};
-ghost use Rattle.mta_drill.specs.Messages.{content_of};
-ghost use Rattle.mta_drill.specs.Messages.{envelope_element, identifier_of, identifier_element, message_of};
+ghost use Rattle.mta_drill_laws.specs.Messages.{content_of};
+ghost use Rattle.mta_drill_laws.specs.Messages.{envelope_element, identifier_of, identifier_element, message_of};
 
 use mta_ber::{Memory, Octets, Writer};
 use mta_names::{constructed, primitive};
@@ -40,7 +40,7 @@ pub fn content_length(message: u32) -> u32
 }
 
 /// The content of a message.
-#[tactic(auto, using(crate::proofs::Contents::none_yet, crate::proofs::Contents::one_octet_more))]
+#[tactic(auto, using(mta_drill_laws::proofs::Contents::none_yet, mta_drill_laws::proofs::Contents::one_octet_more))]
 pub fn content_of(alloc: Global, message: u32) -> Result<Octets, Memory>
     ensures { IfOk result (λ octets. octets ≡ content_of message) }
 {
@@ -63,7 +63,7 @@ pub fn identifier_of(alloc: Global, message: u32) -> Result<Octets, Memory>
 }
 
 // Puts the identifier of a message in its domain.
-#[tactic(auto, unfolding(crate::specs::Messages::identifier_element))]
+#[tactic(auto, unfolding(mta_drill_laws::specs::Messages::identifier_element))]
 fn put_identifier(alloc: Global, writer: &mut Writer, message: u32) -> Result<(), Memory>
     ensures { OnOk result (writer.new ≡ appended writer.old (identifier_element message)) }
 {
@@ -75,7 +75,7 @@ fn put_identifier(alloc: Global, writer: &mut Writer, message: u32) -> Result<()
 }
 
 // Puts what the envelope of a message has.
-#[tactic(auto, unfolding(crate::specs::Messages::envelope_element))]
+#[tactic(auto, unfolding(mta_drill_laws::specs::Messages::envelope_element))]
 fn put_envelope(alloc: Global, writer: &mut Writer, message: u32) -> Result<(), Memory>
     ensures { OnOk result (writer.new ≡ appended writer.old (envelope_element message)) }
 {
@@ -88,7 +88,7 @@ fn put_envelope(alloc: Global, writer: &mut Writer, message: u32) -> Result<(), 
 }
 
 /// The octets of a message.
-#[tactic(auto, unfolding(crate::specs::Messages::message_of))]
+#[tactic(auto, unfolding(mta_drill_laws::specs::Messages::message_of))]
 pub fn message_of(alloc: Global, message: u32) -> Result<Octets, Memory>
     ensures { IfOk result (λ octets. octets ≡ message_of message) }
 {

@@ -1,37 +1,40 @@
 //! One side of a session between two agents: its session is carried on until it has to wait for the other side.
 //!
-//! What a session wants is done as a worker does it (`mta_worker`): units are put and read over the end of a link, and
-//! questions are answered by the spool. In comes the action that it wants; out goes that it waits for a unit, or that
-//! it came to its end. Where the answer to a question is a place at which the link is to be broken, it is broken there.
+//! What a session wants is done as a worker does it (`mta_worker`): units are put and read over the link, and questions
+//! are answered by the spool. In comes the action that it wants; out goes that it waits for a unit, or that it came to
+//! its end. Where a question is a place at which the link is to be broken, it is broken there.
 
-ghost use Rattle.std.specs.Prelude.{◌≡◌, ◌≤◌, ◌<◌, IfOk, true};
+ghost use Rattle.std.specs.Prelude.{◌≡◌, ◌<◌, ◌++◌, [], IfOk, List, false};
+ghost use Rattle.mta_edge.specs.Moments.{memory_clock};
 ghost use Rattle.mta_session.specs.Rank.{calls_left};
 ghost use Rattle.mta_session.specs.declared.event.Action.TheVariants as actions;
-ghost use Rattle.mta_session_run.specs.Running.{HasGot, HasPut, IsCalled};
+ghost use Rattle.mta_session.specs.declared.event.Event.TheVariants as events;
+ghost use Rattle.mta_session_run.specs.Running.{HasTold, IsCalled};
+ghost use Rattle.mta_spool.specs.Stands.{TellsFewer};
 ghost use Rattle.mta_units.specs.Canon.{IsWritable};
-ghost use Rattle.mta_drill.specs.Breaks.{IsDue};
-ghost use Rattle.mta_drill.specs.Sides.{GoesOn, HasRested, MayWait, turns_left};
+ghost use Rattle.mta_units.specs.declared.unit.Unit.{Unit as AnyUnit};
+ghost use Rattle.mta_worker.specs.Told.{TellsLine};
+ghost use Rattle.mta_drill_links.specs.Ways.{AreOnWay};
+ghost use Rattle.mta_drill_stage_laws.specs.World.{Link as WorldLink, Party};
+ghost use Rattle.mta_drill.specs.Sides.{GoesOn, HasRested, MayWait};
+ghost use Rattle.mta_drill.specs.Acts.{HasAnswer, HasAsked, HasCome, HasDone, HasGot, HasRead, IsBrokenBy};
+ghost use Rattle.mta_drill.specs.Acts.{IsOfReading, IsSide, RestsAt, put_event, put_units};
 
+use crate::agent::{Agent, check};
 use crate::breaks::Breaks;
-use crate::link::LinkEnd;
 use mta_ber::Memory;
-use mta_edge::{Clock, Disk};
-use mta_links::Link;
-use mta_session::{Action, Ask, Event, Session, SessionEnd};
-use mta_session_run::{Heard, get_unit, put_unit, tell};
-use mta_spool::Spool;
-use mta_stations::Halt;
-use mta_units::{Frames, Unit};
-use mta_worker::{Lost, answer_all};
+use mta_drill_links::Way;
+use mta_session::{Action, Ask, Event, Reply, Session, SessionEnd};
+use mta_session_run::tell;
+use mta_units::Unit;
+use mta_worker::{Lost, answer, halt_after, told};
 use std::alloc::Global;
 
-/// A session, its end of the link, what came over it and is no whole unit yet, and why its worker would end.
+/// A session, and the way to its end of the link.
 #[derive(Drop)]
 pub(crate) struct Side {
     pub session: Session,
-    pub link: LinkEnd,
-    pub frames: Frames,
-    pub halt: Option<Halt>,
+    pub came: Way,
 }
 
 /// Where a side rests.
@@ -50,111 +53,155 @@ pub(crate) enum Done {
     Rests(Rest),
 }
 
-// Puts a unit, and tells whether it is wholly put.
-fn put<L: Link>(alloc: Global, link: &mut L, unit: &Unit) -> Result<Event, Memory>
-    requires { IsWritable unit.now }
-    ensures put { IfOk result (λ e. HasPut L.model unit.now link.old e link.new) }
+// Puts a unit on the way to the other end, and tells whether the link took it: a broken one takes none.
+fn put(alloc: Global, came: &Way, other: &mut Way, unit: &Unit) -> Result<Event, Memory>
+    requires writable { IsWritable unit.now }
+    ensures event { IfOk result (λ e. e ≡ put_event came.now.is_broken) }
+    ensures units { (us : List AnyUnit) → AreOnWay us other.old.feed
+        → IfOk result (λ e. AreOnWay (us ++ put_units came.now.is_broken unit.now) other.new.feed) }
+    ensures broken { other.new.is_broken ≡ other.old.is_broken }
 {
-    if put_unit(alloc, link, unit)? {
-        Ok(Event::Go)
-    } else {
-        Ok(Event::Over)
+    if came.is_broken() {
+        return Ok(Event::Over);
+    }
+    other.put(alloc, unit)?;
+    Ok(Event::Go)
+}
+
+// Reads the next unit that came; none where nothing did. A broken link gives none, and is over.
+fn get(came: &mut Way) -> Result<Option<Event>, Memory>
+    ensures got { (us : List AnyUnit) → AreOnWay us came.old.feed
+        → IfOk result (λ o. HasGot came.old.is_broken us o came.new.feed) }
+    ensures read { IfOk result IsOfReading }
+    ensures broken { came.new.is_broken ≡ came.old.is_broken }
+{
+    if came.is_broken() {
+        return Ok(Some(Event::Over));
+    }
+    match came.next()? {
+        Some(unit) => Ok(Some(Event::Unit(unit))),
+        None => Ok(None),
     }
 }
 
-// Reads the next unit.
-fn get<L: Link>(link: &mut L, frames: &mut Frames) -> Result<Event, Memory>
-    ensures got { IfOk result (λ e. HasGot L.model link.old frames.old e link.new frames.new) }
+// Breaks the link where the place is reached at which it is to be broken.
+fn break_behind(came: &mut Way, other: &mut Way, breaks: &mut Breaks, ask: &Ask)
+    ensures broken { IsBrokenBy came.old.is_broken breaks.old ask.now came.new.is_broken breaks.new }
+    ensures alike { other.old.is_broken ≡ came.old.is_broken → other.new.is_broken ≡ came.new.is_broken }
+    ensures came { came.new.feed ≡ came.old.feed }
+    ensures other { other.new.feed ≡ other.old.feed }
 {
-    match get_unit(link, frames)? {
-        Heard::Unit(unit) => Ok(Event::Unit(unit)),
-        Heard::Bad => Ok(Event::BadUnit),
-        Heard::Over => Ok(Event::Over),
+    if breaks.take(ask) {
+        came.break_off();
+        other.break_off();
     }
+}
+
+// The spool's answer to a question. Want of memory is refused.
+fn answered(alloc: Global, spool: &mut Agent, ask: Ask) -> Result<Reply, Memory>
+    ensures answered { IfOk result (λ x. HasAnswer ask spool.old x spool.new) }
+    ensures line { IfOk result (λ x. TellsLine (events.Reply x)) }
+    ensures clock { TellsFewer memory_clock spool.old.clock spool.new.clock }
+{
+    let reply = answer(alloc, spool, ask);
+    check(halt_after(&reply))?;
+    Ok(reply)
 }
 
 impl Side {
     /// A side of a session on a new link.
-    pub fn new(alloc: Global, session: Session, halt: Option<Halt>) -> Side
-        ensures { result.session ≡ session }
+    pub fn new(alloc: Global, session: Session) -> Side
+        ensures session { result.session ≡ session }
+        ensures none { AreOnWay [] result.came.feed }
+        ensures whole { result.came.is_broken ≡ false }
     {
         Side {
             session,
-            link: LinkEnd::new(alloc),
-            frames: Frames::new(alloc),
-            halt,
+            came: Way::new(alloc),
         }
     }
 
     // Puts a unit, and tells the session.
-    fn put(&mut self, alloc: Global, unit: Unit) -> Result<Action, Memory>
+    fn put(&mut self, alloc: Global, other: &mut Way, unit: Unit) -> Result<Action, Memory>
         requires called { IsCalled self.old.session (actions.Put unit) }
         ensures called { IfOk result (IsCalled self.new.session) }
         ensures falls { IfOk result (λ a. calls_left self.new.session < calls_left self.old.session) }
+        ensures told { IfOk result
+            (λ a. HasTold self.old.session (put_event self.old.came.is_broken) a self.new.session) }
+        ensures units { (us : List AnyUnit) → AreOnWay us other.old.feed
+            → IfOk result (λ a. AreOnWay (us ++ put_units self.old.came.is_broken unit) other.new.feed) }
+        ensures came { self.new.came ≡ self.old.came }
+        ensures broken { other.new.is_broken ≡ other.old.is_broken }
     {
-        let event = put(alloc, &mut self.link, &unit)?;
+        let event = put(alloc, &self.came, other, &unit)?;
         tell(&mut self.session, event)
     }
 
-    /// Reads the next unit, and tells the session; or that the link is over, where no unit comes.
-    pub fn read(&mut self) -> Result<Action, Memory>
-        requires called { IsCalled self.old.session actions.Read }
-        ensures called { IfOk result (IsCalled self.new.session) }
-        ensures falls { IfOk result (λ a. calls_left self.new.session < calls_left self.old.session) }
-    {
-        let event = get(&mut self.link, &mut self.frames)?;
-        tell(&mut self.session, event)
-    }
-
-    // Reads where a unit came or the link is broken, and else waits.
-    fn read_or_wait(&mut self) -> Result<Done, Memory>
+    // Reads the next unit, and tells the session; or waits where nothing came.
+    fn read(&mut self) -> Result<Done, Memory>
         requires called { IsCalled self.old.session actions.Read }
         ensures done { IfOk result (λ d. GoesOn self.old.session d self.new.session) }
+        ensures read { (us : List AnyUnit) → AreOnWay us self.old.came.feed
+            → IfOk result (λ d. HasRead self.old.came.is_broken us self.old.session d self.new.session
+            self.new.came.feed) }
+        ensures broken { self.new.came.is_broken ≡ self.old.came.is_broken }
     {
-        if self.link.waits() {
-            return Ok(Done::Rests(Rest::Waits));
+        match get(&mut self.came)? {
+            Some(event) => Ok(Done::Told(tell(&mut self.session, event)?)),
+            None => Ok(Done::Rests(Rest::Waits)),
         }
-        Ok(Done::Told(self.read()?))
     }
 
-    // Asks the spool. The link is broken behind the answer where its place is reached. A session that cannot be told
-    // the answer is over.
-    fn ask<D: Disk + Drop, C: Clock + Drop>(
+    // Asks the spool. The link is broken with the question where its place is reached, so that nothing to which the
+    // answer leads goes over it. A session that cannot be told the answer is over.
+    fn ask(
         &mut self,
         alloc: Global,
-        spool: &mut Spool<D, C>,
+        spool: &mut Agent,
         breaks: &mut Breaks,
+        other: &mut Way,
         ask: Ask,
     ) -> Result<Done, Memory>
         requires called { IsCalled self.old.session (actions.Ask ask) }
         ensures done { IfOk result (λ d. GoesOn self.old.session d self.new.session) }
-        ensures broken { IsDue breaks.old ask → self.new.link.is_broken ≡ true }
+        ensures asked { IfOk result
+            (λ d. HasAsked ask spool.old self.old.session d spool.new self.new.session) }
+        ensures broken { IsBrokenBy self.old.came.is_broken breaks.old ask self.new.came.is_broken breaks.new }
+        ensures alike { other.old.is_broken ≡ self.old.came.is_broken
+            → other.new.is_broken ≡ self.new.came.is_broken }
+        ensures came { self.new.came.feed ≡ self.old.came.feed }
+        ensures other { other.new.feed ≡ other.old.feed }
+        ensures clock { TellsFewer memory_clock spool.old.clock spool.new.clock }
     {
-        if breaks.take(&ask) {
-            self.link.break_off();
-        }
-        match answer_all(alloc, spool, &mut self.session, ask, &mut self.halt) {
+        break_behind(&mut self.came, other, breaks, &ask);
+        let reply = answered(alloc, spool, ask)?;
+        match told(&mut self.session, reply) {
             Ok(action) => Ok(Done::Told(action)),
             Err(Lost::Memory) => Err(Memory),
             Err(Lost::Lane) => Ok(Done::Rests(Rest::Over { is_closed: false })),
         }
     }
 
-    // Does what the session wants.
-    fn act<D: Disk + Drop, C: Clock + Drop>(
+    /// Does what the session wants. Both ways of a link are broken together.
+    pub fn act(
         &mut self,
         alloc: Global,
-        spool: &mut Spool<D, C>,
+        spool: &mut Agent,
         breaks: &mut Breaks,
+        other: &mut Way,
         action: Action,
     ) -> Result<Done, Memory>
         requires called { IsCalled self.old.session action }
         ensures done { IfOk result (λ d. GoesOn self.old.session d self.new.session) }
+        ensures acts { (p : Party) (l : WorldLink) → IsSide self.old spool.old action breaks.old p l
+            → IfOk result (λ d. HasDone p l d self.new spool.new breaks.new other.old.feed other.new.feed) }
+        ensures alike { other.old.is_broken ≡ self.old.came.is_broken
+            → other.new.is_broken ≡ self.new.came.is_broken }
     {
         match action {
-            Action::Put(unit) => Ok(Done::Told(self.put(alloc, unit)?)),
-            Action::Read => self.read_or_wait(),
-            Action::Ask(ask) => self.ask(alloc, spool, breaks, ask),
+            Action::Put(unit) => Ok(Done::Told(self.put(alloc, other, unit)?)),
+            Action::Read => self.read(),
+            Action::Ask(ask) => self.ask(alloc, spool, breaks, other, ask),
             Action::Finish(end) => Ok(Done::Rests(Rest::Over {
                 is_closed: end == SessionEnd::Closed,
             })),
@@ -162,37 +209,49 @@ impl Side {
     }
 
     /// Carries the session on from an action of it until it rests.
-    pub fn carry_on<D: Disk + Drop, C: Clock + Drop>(
+    pub fn carry_on(
         &mut self,
         alloc: Global,
-        spool: &mut Spool<D, C>,
+        spool: &mut Agent,
         breaks: &mut Breaks,
+        other: &mut Way,
         first: Action,
     ) -> Result<Rest, Memory>
         requires called { IsCalled self.old.session first }
         ensures rested { IfOk result (λ r. HasRested self.old.session r self.new.session) }
+        ensures came { (p : Party) (l : WorldLink) → IsSide self.old spool.old first breaks.old p l
+            → IfOk result (λ r. HasCome p l r self.new spool.new breaks.new other.old.feed other.new.feed) }
+        ensures alike { other.old.is_broken ≡ self.old.came.is_broken
+            → IfOk result (λ r. other.new.is_broken ≡ self.new.came.is_broken) }
     {
         let mut action = first;
         loop {
-            match self.act(alloc, spool, breaks, action)? {
+            match self.act(alloc, spool, breaks, other, action)? {
                 Done::Told(next) => action = next,
                 Done::Rests(rest) => return Ok(rest),
             }
         }
     }
 
-    /// Carries a session on that waits, with the unit that came, or once the link is broken, until it rests.
-    pub fn go_on<D: Disk + Drop, C: Clock + Drop>(
+    /// Carries a session on that waits, until it rests again.
+    pub fn go_on(
         &mut self,
         alloc: Global,
-        spool: &mut Spool<D, C>,
+        spool: &mut Agent,
         breaks: &mut Breaks,
+        other: &mut Way,
+        rest: Rest,
     ) -> Result<Rest, Memory>
-        requires called { IsCalled self.old.session actions.Read }
+        requires waits { MayWait self.old.session rest }
         ensures rested { IfOk result (MayWait self.new.session) }
-        ensures falls { IfOk result (λ r. turns_left r self.new.session ≤ calls_left self.old.session) }
+        ensures came { (p : Party) (l : WorldLink) → RestsAt rest self.old spool.old breaks.old p l
+            → IfOk result (λ r. HasCome p l r self.new spool.new breaks.new other.old.feed other.new.feed) }
+        ensures alike { other.old.is_broken ≡ self.old.came.is_broken
+            → IfOk result (λ r. other.new.is_broken ≡ self.new.came.is_broken) }
     {
-        let action = self.read()?;
-        self.carry_on(alloc, spool, breaks, action)
+        match rest {
+            Rest::Waits => self.carry_on(alloc, spool, breaks, other, Action::Read),
+            Rest::Over { .. } => Ok(rest),
+        }
     }
 }

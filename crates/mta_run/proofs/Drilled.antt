@@ -7,8 +7,7 @@ use Rattle.mta_words.specs.declared.words.Words.{Words}
 use Rattle.mta_words.specs.declared.words.Words.TheVariants as Say
 use Rattle.mta_words.specs.Words.{Says}
 use Rattle.mta_commands.specs.declared.stop.Stop.{Stop}
-use Rattle.mta_commands.specs.declared.stop.Stop.TheVariants as Stops
-use Rattle.mta_commands.specs.Causes.{of_drill, Cause, lost, memory}
+use Rattle.mta_commands.specs.Causes.{of_drill, Cause, memory}
 use Rattle.mta_commands.specs.Command.{HasEnded, NoneWorked}
 use Rattle.mta_commands.specs.DiskLeft.{uncalled}
 use Rattle.mta_commands.specs.Handed.{handed}
@@ -30,9 +29,9 @@ drilled_text messages (Ok s) is t e = sym s_is ∙ is where
 drilled_text messages (Err s) is t e = absurd cc
 
 drilled_stop : (messages : ℕ) (text : Result (List ℕ) Stop) → IsDrilledAs messages text → (stop : Stop)
-    → text ≡ Err stop → IsDrillStop messages stop
+    → text ≡ Err stop → IsDrillStop stop
 drilled_stop messages (Ok s) is stop e = absurd cc
-drilled_stop messages (Err s) is stop e = subst (IsDrillStop messages) s_is is where
+drilled_stop messages (Err s) is stop e = subst IsDrillStop s_is is where
   s_is : s ≡ stop
   s_is = cc
 
@@ -40,7 +39,7 @@ drilled_stop messages (Err s) is stop e = subst (IsDrillStop messages) s_is is w
 pub drill_printed : (messages : ℕ) (out : Output) (text : Result (List ℕ) Stop) (result : Result (Unit {0}) Stop)
     → IsDrilledAs messages text → HasShown text out result → HasPrintedDrill messages out result
 drill_printed messages out text result is shown =
-    shown_printed (IsDrillStop messages) (λ (t : List ℕ). t ≡ drill_text messages) out text result
+    shown_printed IsDrillStop (λ (t : List ℕ). t ≡ drill_text messages) out text result
     (drilled_text messages text is) (drilled_stop messages text is) shown
 
 -- ---- as what a command leaves
@@ -53,13 +52,13 @@ some_messages words messages is said =
     drills.spelled.number.least
 
 drill_cause : {D C I : Type 0} (disks : DiskView D) (clocks : ClockView C) (sources : SourceView I) (messages : ℕ)
-    (conf input : I) (disk : D) (clock : C) (stop : Stop) → IsDrillStop messages stop
+    (conf input : I) (disk : D) (clock : C) (stop : Stop) → IsDrillStop stop
     → Cause (handed disks clocks sources (Some (Say.Drill messages)) conf conf input input disk disk clock) [] []
     uncalled stop
-drill_cause disks clocks sources messages conf input disk clock (Stops.Lost message) why =
-    lost messages message refl why.0 why.1
-drill_cause disks clocks sources messages conf input disk clock Stops.Memory why = memory uncalled
-drill_cause disks clocks sources messages conf input disk clock any1 why = absurd why
+drill_cause disks clocks sources messages conf input disk clock stop why =
+    subst (λ (s : Stop). Cause
+    (handed disks clocks sources (Some (Say.Drill messages)) conf conf input input disk disk clock) [] [] uncalled s)
+    (sym why) (memory uncalled)
 
 pub drill_ended : {D C I : Type 0} (disks : DiskView D) (laws : DiskLaws disks) (clocks : ClockView C)
     (sources : SourceView I) (messages : ℕ) (conf input : I) (disk : D) (clock : C) (out : Output)

@@ -18,7 +18,7 @@ use Rattle.mta_words.specs.declared.words.Words.TheVariants as Say
 use Rattle.mta_commands.specs.Words.{ReadsTables, ReadsApdu, OpensDisk, Serves}
 use Rattle.mta_commands.specs.Handed.{Handed, ForFound, InputsRead}
 use Rattle.mta_output.specs.Output.{Output, output}
-use Rattle.mta_commands.specs.Output.{HasPrinted, whole, HasClosed, IsEnded}
+use Rattle.mta_commands.specs.Output.{PrintsOrFails, whole, HasClosed, IsEnded}
 use Rattle.mta_commands.specs.DiskLeft.{Opening, opened}
 use Rattle.mta_commands.specs.Causes.{mailbox_named, IsText, of_submit, of_queue, of_serve, of_mailbox, of_decode}
 use Rattle.mta_commands.specs.Causes.{of_drill, Cause, memory}
@@ -128,7 +128,7 @@ text_tells h ends added _ _ (of_drill messages text word is) = record {
 
 -- the text of a command that did what it does
 printed_tells : {D C I : Type 0} (h : Handed D C I) (ends : List WorkerEnd) (added : List Step) (opening : Opening)
-    (out : Output) (result : Result (Unit {0}) Stop) → HasPrinted (Cause h ends added opening)
+    (out : Output) (result : Result (Unit {0}) Stop) → PrintsOrFails (Cause h ends added opening)
     (IsText h ends added opening) out result → result ≡ Ok tt → TextTells h opening
 printed_tells h ends added opening out _ (whole d text x p) e = text_tells h ends added opening text x
 printed_tells h ends added opening out _ any6 e = absurd cc

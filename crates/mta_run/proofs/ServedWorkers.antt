@@ -38,7 +38,7 @@ use Rattle.mta_worker_step_laws.proofs.Workers.{steps_are_timed}
 use Rattle.mta_commands.specs.declared.stop.Stop.{Stop}
 use Rattle.mta_commands.specs.Causes.{Cause, disk as cause_disk, full_serving, memory as cause_memory, of_serve}
 use Rattle.mta_commands.specs.Causes.{of_worker, PeersNamed, spent_serving}
-use Rattle.mta_commands.specs.Command.{HasEnded, IsSettled, SourcesLeft}
+use Rattle.mta_commands.specs.Command.{HasEnded, NothingIsDue, SourcesLeft}
 use Rattle.mta_commands.specs.DiskLeft.{DiskLeft, opened}
 use Rattle.mta_commands.specs.Handed.{DiskFailed, ForDisk, ForOpened, ForTables, Handed, InputsRead}
 use Rattle.mta_output.specs.Output.{Output}
@@ -285,7 +285,7 @@ module _ {D C I : Type 0} (h : Handed D C I) (serves : Serves h.words) (laws : D
     only_adding = λ none. absurd (none (serves_adds h.words serves));
     calm = λ ok. b.calm (x.well ok).0;
     settled = λ e ok f found steps was s.
-        subst (λ (y : List Step). IsSettled Tells (y ++ final.entries)) (firsts f found steps was s)
+        subst (λ (y : List Step). NothingIsDue Tells (y ++ final.entries)) (firsts f found steps was s)
         (subst (λ (z : State). (told : ℕ) × Tells told × IsQuiet z (step_moment told z.moment)) k.state
         (quiet x.settled x.behind (x.well ok).0));
     recorded = λ e ok. recorded;

@@ -18,18 +18,18 @@ use Rattle.mta_stations.specs.declared.end.Halt.TheVariants as Halts
 use Rattle.mta_stations.specs.declared.end.WorkerEnd.{WorkerEnd}
 use Rattle.mta_stations.specs.Peers.{IsNamed, IsUnnamed}
 use Rattle.mta_commands.specs.declared.stop.Stop.{Stop}
-use Rattle.mta_commands.specs.Words.{AddsSteps, Drills, OpensDisk, roles_named, Serves}
+use Rattle.mta_commands.specs.Words.{AddsSteps, OpensDisk, roles_named, Serves}
 use Rattle.mta_commands.specs.Handed.{Handed}
 use Rattle.mta_commands.specs.Lines.{status_of}
 use Rattle.mta_output.specs.Output.{Output, OutputFailed}
 use Rattle.mta_commands.specs.Output.{IsEnded, done, told, cut_text, cut_line}
 use Rattle.mta_commands.specs.DiskLeft.{Opening, uncalled}
-use Rattle.mta_commands.specs.Causes.{IsText, Cause, usage, lost, memory, source, tables, apdu, not_spool}
+use Rattle.mta_commands.specs.Causes.{IsText, Cause, usage, memory, source, tables, apdu, not_spool}
 use Rattle.mta_commands.specs.Causes.{full_opening, not_opened, disk, full, spent, no_mailbox, no_peer, full_serving}
 use Rattle.mta_commands.specs.Causes.{spent_serving, of_worker}
 use Rattle.mta_commands.specs.Serving.{stop_of_halt}
 use Rattle.mta_commands.proofs.Same.{ok_same}
-use Rattle.mta_commands.proofs.StopStatuses.{IsEarly, StatusTells, stop_tells, usage_only, usage_there, lost_only}
+use Rattle.mta_commands.proofs.StopStatuses.{IsEarly, StatusTells, stop_tells, usage_only, usage_there}
 use Rattle.mta_commands.proofs.StopStatuses.{drill_there, disk_only, source_only, sink_never, early, text_said}
 use Rattle.mta_commands.proofs.Words.{serves_adds, serves_reads}
 use Rattle.mta_run.specs.Ran.{EndsBeforeOpening, Tells, AllInOrder, IsComplete, IsOlderAndFull}
@@ -38,7 +38,6 @@ use Rattle.mta_run.specs.Ran.{EndsBeforeOpening, Tells, AllInOrder, IsComplete, 
 abbrev Completes : {D C I : Type 0} → Handed D C I → ℕ → Type 0
 Completes h status =
     (status ≡ 0) ⊎ (status ≡ 7) ⊎ ((status ≡ 5) × (AddsSteps h.words ⊎ (OpensDisk h.words × IsOlderAndFull h)))
-    ⊎ ((status ≡ 11) × Drills h.words)
 
 -- ---- what is in order has no fault
 
@@ -108,11 +107,6 @@ module _ {D C I : Type 0} (h : Handed D C I) (ends : List WorkerEnd) (added : Li
   where_known out status n (inl e) = inl e
   where_known out status n (inr e) = inr (inl e)
 
-  where_drills : (out : Output) (status : ℕ) → (status ≡ 11) ⊎ (status ≡ 7)
-      → (status ≡ 0) ⊎ (status ≡ 11) ⊎ (status ≡ 7) ⊎ ((status ≡ 9) × OutputFailed out)
-  where_drills out status (inl e) = inr (inl e)
-  where_drills out status (inr e) = inr (inr (inl e))
-
   -- the output failed
   cut_tells : (opening : Opening) (out : Output) (status : ℕ) → ((OpensDisk h.words → ⊥) → opening ≡ uncalled)
       → (opening ≡ uncalled → h.disk.after ≡ h.disk.before) → status ≡ 9 → OutputFailed out
@@ -120,8 +114,7 @@ module _ {D C I : Type 0} (h : Handed D C I) (ends : List WorkerEnd) (added : Li
   cut_tells opening out status unless same e failed ended = record {
     usage = λ w. absurd (omega (arith, w, e));
     usage_where = λ none. inr (inr (e, failed));
-    lost = λ w. absurd (omega (arith, w, e));
-    drills = λ it. inr (inr (inr (e, failed)));
+    drills = λ it. inr (inr (e, failed));
     disk = λ w. absurd (omega (arith, w, e));
     source = λ w. absurd (omega (arith, w, e));
     sink = λ w. failed;
@@ -136,7 +129,6 @@ module _ {D C I : Type 0} (h : Handed D C I) (ends : List WorkerEnd) (added : Li
   ended_tells opening out status unless same (done e t x p) = record {
     usage = λ w. absurd (omega (arith, w, e));
     usage_where = λ none. absurd (text_said h ends added opening t x none);
-    lost = λ w. absurd (omega (arith, w, e));
     drills = λ it. inl e;
     disk = λ w. absurd (omega (arith, w, e));
     source = λ w. absurd (omega (arith, w, e));
@@ -148,8 +140,7 @@ module _ {D C I : Type 0} (h : Handed D C I) (ends : List WorkerEnd) (added : Li
       record {
         usage = usage_only h opening status row;
         usage_where = λ none. where_known out status 1 (usage_there h opening status row none);
-        lost = lost_only h opening status row;
-        drills = λ it. where_drills out status (drill_there h opening status row it);
+        drills = λ it. inr (inl (drill_there h opening status row it));
         disk = disk_only h opening status row;
         source = source_only h opening status row;
         sink = λ w. absurd (sink_never h opening status row w);
@@ -164,8 +155,8 @@ module _ {D C I : Type 0} (h : Handed D C I) (ends : List WorkerEnd) (added : Li
 
   complete_worker : (halt : Halt) (status : ℕ) → Serves h.words → status ≡ status_of (stop_of_halt halt)
       → Completes h status
-  complete_worker (Halts.Full size need) status serves e = inr (inr (inl (e, inl (serves_adds h.words serves))))
-  complete_worker (Halts.Spent last) status serves e = inr (inr (inl (e, inl (serves_adds h.words serves))))
+  complete_worker (Halts.Full size need) status serves e = inr (inr (e, inl (serves_adds h.words serves)))
+  complete_worker (Halts.Spent last) status serves e = inr (inr (e, inl (serves_adds h.words serves)))
   complete_worker any status serves e = inr (inl e)
 
   complete_stop : (opening : Opening) (stop : Stop) (status : ℕ) (out : Output) → Cause h ends added opening stop
@@ -182,13 +173,13 @@ module _ {D C I : Type 0} (h : Handed D C I) (ends : List WorkerEnd) (added : Li
   complete_stop _ _ status out (not_spool at opens inputs none) o e = let x = o.spool opens in absurd
       (no_history x.0 at x.1 (none x.0 x.2) x.3)
   complete_stop _ _ status out (full_opening size need opens inputs fits) o e =
-      inr (inr (inl (e, inr (opens, (size, need, fits)))))
+      inr (inr (e, inr (opens, (size, need, fits))))
   complete_stop _ _ status out (not_opened opens inputs failed) o e = absurd (o.calm_disk failed)
   complete_stop _ _ status out (disk adds inputs failed) o e = absurd (o.calm_disk failed)
   complete_stop _ _ status out (full size need submit inputs why) o e =
-      inr (inr (inl (e, inl (subst AddsSteps (sym submit) tt))))
+      inr (inr (e, inl (subst AddsSteps (sym submit) tt)))
   complete_stop _ _ status out (spent last submit inputs why) o e =
-      inr (inr (inl (e, inl (subst AddsSteps (sym submit) tt))))
+      inr (inr (e, inl (subst AddsSteps (sym submit) tt)))
   complete_stop _ _ status out (no_mailbox name word none) o e = let x = o.spool (subst OpensDisk (sym word) tt)
       in absurd (o.named name word x.0 x.1 x.2 x.3 (none x.0 x.1 x.2 x.3))
   complete_stop _ _ status out (no_peer name serves unnamed) o e =
@@ -197,12 +188,10 @@ module _ {D C I : Type 0} (h : Handed D C I) (ends : List WorkerEnd) (added : Li
       let un = unnamed x.0 x.1 in
       absurd (not_unnamed x.0 (roles_named h.words) name named.0 un.0 named.1 un.1 named.2 un.2)
   complete_stop _ _ status out (full_serving size need serves inputs why) o e =
-      inr (inr (inl (e, inl (serves_adds h.words serves))))
+      inr (inr (e, inl (serves_adds h.words serves)))
   complete_stop _ _ status out (spent_serving last serves inputs why) o e =
-      inr (inr (inl (e, inl (serves_adds h.words serves))))
+      inr (inr (e, inl (serves_adds h.words serves)))
   complete_stop _ _ status out (of_worker halt serves inputs decides) o e = complete_worker halt status serves e
-  complete_stop _ _ status out (lost messages message word some most) o e =
-      inr (inr (inr (e, subst Drills (sym word) tt)))
 
   pub ended_complete : (opening : Opening) (out : Output) (status : ℕ) → IsEnded (Cause h ends added opening)
       (IsText h ends added opening) out status → IsComplete h out status

@@ -24,7 +24,7 @@ use Rattle.mta_commands.specs.Output.{IsEnded}
 use Rattle.mta_commands.specs.DiskLeft.{Opening, uncalled, opened, DiskLeft}
 use Rattle.mta_commands.specs.Submit.{AreOwn, AreInTurn, accepts, IsAccepted}
 use Rattle.mta_commands.specs.Causes.{Cause, IsText, mailbox_named, PeersNamed}
-use Rattle.mta_commands.specs.Command.{IsSettled, OnStations, SourcesLeft}
+use Rattle.mta_commands.specs.Command.{NothingIsDue, OnStations, SourcesLeft}
 use Rattle.mta_commands.specs.Images.{IsSafeBefore}
 use Rattle.mta_commands.specs.Provenance.{AreOfCall}
 
@@ -57,7 +57,7 @@ pub record EndedWell {D C I : Type 0} (h : Handed D C I) (opening : Opening) (en
   pub named : (name : List ℕ) → h.words ≡ Some (Say.Mailbox name)
       → ForFound h (λ found. mailbox_named (after found) name ≢ None)
   -- with `submit` and `serve` nothing is due
-  pub settled : AddsSteps h.words → ForOpened h (λ steps. IsSettled (h.clocks.tells h.clock) (steps ++ added))
+  pub settled : AddsSteps h.words → ForOpened h (λ steps. NothingIsDue (h.clocks.tells h.clock) (steps ++ added))
   -- with `serve` each worker gave its links back, or its station ended or failed
   pub undecided : IsUndecided (halts_of ends)
   -- with `submit` and `serve` the tables recorded last are those that were read
@@ -119,10 +119,8 @@ pub record Tells {D C I : Type 0} (h : Handed D C I) (out : Output) (status : �
   -- 1 comes exactly where the words are outside the grammar, but for want of memory and a fault of the output
   pub usage : status ≡ 1 → h.words ≡ None
   pub usage_where : h.words ≡ None → (status ≡ 1) ⊎ (status ≡ 7) ⊎ ((status ≡ 9) × OutputFailed out)
-  -- 11 comes only where a message of a drill is lost, and a drill ends with 0 or so, but for the same
-  pub lost : status ≡ 11 → Drills h.words
-  pub drills : Drills h.words → (status ≡ 0) ⊎ (status ≡ 11) ⊎ (status ≡ 7)
-      ⊎ ((status ≡ 9) × OutputFailed out)
+  -- a drill ends with 0, but for the same
+  pub drills : Drills h.words → (status ≡ 0) ⊎ (status ≡ 7) ⊎ ((status ≡ 9) × OutputFailed out)
   pub disk : status ≡ 4 → OpensDisk h.words × DiskFailed h
   pub source : status ≡ 8 → SourceFailed h
   pub sink : status ≡ 9 → OutputFailed out
@@ -147,9 +145,8 @@ pub record AllInOrder {D C I : Type 0} (h : Handed D C I) (out : Output) : Type 
   pub calm_output : OutputFailed out → ⊥
 
 -- Then the status is 0, or 7, or 5 where a step was refused for its numbers or its record did not fit, or the
--- format did not fit, or 11 where a message of a drill is lost.
+-- format did not fit.
 abbrev pub IsComplete : {D C I : Type 0} → Handed D C I → Output → ℕ → Type 0
 IsComplete h out status =
     AllInOrder h out → (status ≡ 0) ⊎ (status ≡ 7)
     ⊎ ((status ≡ 5) × (AddsSteps h.words ⊎ (OpensDisk h.words × IsOlderAndFull h)))
-    ⊎ ((status ≡ 11) × Drills h.words)

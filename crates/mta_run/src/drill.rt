@@ -1,17 +1,16 @@
 //! `drill`: what a drill of so many messages counts.
 //!
 //! The messages are passed between two agents on empty disks in memory (`mta_drill`), and the text of the drill is
-//! printed. Of what was handed in only the output is called. It stops where a message is lost, the sink fails, or
-//! memory is refused.
+//! printed. Of what was handed in only the output is called. It stops where the sink fails, or memory is refused.
 
 ghost use Rattle.std.specs.Prelude.{◌≤◌};
 ghost use Rattle.mta_output.specs.Output.{output};
 ghost use Rattle.mta_run.specs.Drilling.{HasPrintedDrill, IsDrilledAs};
 
-use mta_ber::Octets;
+use mta_ber::{Memory, Octets};
 use mta_commands::Stop;
 use mta_commands::print::print;
-use mta_drill::{DrillFault, drill as pass_messages};
+use mta_drill::drill as pass_messages;
 use mta_edge::{SafeDisk, Sink};
 use std::alloc::Global;
 
@@ -24,8 +23,7 @@ fn text_of(alloc: Global, messages: u32) -> Result<Octets, Stop>
     let second = SafeDisk::new(alloc, Octets::new(alloc));
     match pass_messages(alloc, messages, first, second) {
         Ok(drilled) => Ok(drilled.text),
-        Err(DrillFault::Memory) => Err(Stop::Memory),
-        Err(DrillFault::Lost { message }) => Err(Stop::Lost { message }),
+        Err(Memory) => Err(Stop::Memory),
     }
 }
 

@@ -80,7 +80,6 @@ module _ {E : Type 0} (model : DiskView E) (laws : DiskLaws model) (asked : Aske
     told_outcome (Stops.Agent (AgentStops.NoMailbox name)) tells =
         told o.marks (Stops.Agent (AgentStops.NoMailbox name)) o.stood tells
     told_outcome (Stops.Agent AgentStops.Usage) tells = absurd tells
-    told_outcome (Stops.Agent (AgentStops.Lost message)) tells = absurd tells
     told_outcome (Stops.Agent (AgentStops.Tables line kind)) tells = absurd tells
     told_outcome (Stops.Agent (AgentStops.NotSpool at)) tells = absurd tells
     told_outcome (Stops.Agent AgentStops.Disk) tells = absurd tells

@@ -1,9 +1,8 @@
 -- What is decided, as an answer.
-use Rattle.std.proofs.Common.{◌≡◌, ℕ, Bool, true, false, List, Option, Some, None, Result, Ok, Err, refl, sym, subst}
+use Rattle.std.proofs.Common.{◌≡◌, ℕ, true, false, List, Option, Some, None, Result, Err, refl, sym, subst}
 use Rattle.std.proofs.Common.{inl, inr}
-use Rattle.std.specs.Prelude.{◌⊎◌, is_some}
+use Rattle.std.specs.Prelude.{is_some}
 use Rattle.mta_commands.specs.Causes.{mailbox_named}
-use Rattle.mta_commands.specs.declared.stop.Stop.TheVariants as AgentStops
 use Rattle.mta_histories.specs.Lanes.{State}
 use Rattle.mta_marks.specs.declared.mark.Standing.{Standing}
 use Rattle.mta_store_run.specs.Asked.{mailbox_asked}
@@ -12,7 +11,6 @@ use Rattle.mta_store_run.specs.Store.{Answer, answer_if, answer_in, answer_of, n
 use Rattle.mta_store_run.specs.declared.asked.Asked.{Asked}
 use Rattle.mta_store_run.specs.declared.deciding.Decision.{Decision}
 use Rattle.mta_store_run.specs.declared.stop.Stop.{Stop}
-use Rattle.mta_store_run.specs.declared.stop.Stop.TheVariants as Stops
 
 not_named : (o : Option ℕ) (answer : Answer) → is_some o ≡ false → answer_if o answer ≡ no_mailbox
 not_named None answer e = refl

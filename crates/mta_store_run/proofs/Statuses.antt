@@ -3,9 +3,8 @@ use Rattle.std.proofs.Common.{◌≡◌, ℕ, List, [], Option, Some, None, Resu
 use Rattle.std.proofs.Common.{◌⊎◌}
 use Rattle.std.proofs.Common.{inl, inr, ⊎_elim, arith}
 use Rattle.mta_commands.specs.DiskLeft.{DiskLeft, Opening}
-use Rattle.mta_output.specs.Output.{Output, OutputFailed}
-use Rattle.mta_commands.specs.Output.{Tells, failed as line_failed, line, short as line_short}
-use Rattle.mta_commands.specs.Output.{short_failed}
+use Rattle.mta_output.specs.Output.{Output, OutputFailed, HasToldLine, failed as line_failed, line, short as line_short}
+use Rattle.mta_output.specs.Output.{short_failed}
 use Rattle.mta_commands.specs.declared.stop.Stop.TheVariants as AgentStops
 use Rattle.mta_edge.specs.Views.{WhereTold}
 use Rattle.mta_histories.specs.History.{after}
@@ -86,7 +85,7 @@ calls_once f g (Some asked) m n p q = once f g asked m n p q
 
 module _ (out : Output) (status : ℕ) where
   -- the status of the line, or want of memory for it, or a fault of the output
-  line_status : (text : List ℕ) (good : ℕ) → Tells text good out status
+  line_status : {no_memory : List ℕ} (text : List ℕ) (good : ℕ) → HasToldLine text no_memory good out status
       → (status ≡ good) ⊎ (status ≡ 7) ⊎ ((status ≡ 9) × OutputFailed out)
   line_status text good (line e prints) = inl e
   line_status text good (line_short e prints) = inr (inl e)
@@ -126,7 +125,6 @@ module _ {D E : Type 0} (h : Handed D E) (out : Output) (status : ℕ) where
         subst (λ (x : Answer). CallsOf g marks x status) (sym tells.0) e
     tells_calls marks asked answer (Stops.Agent AgentStops.Memory) tells e = absurd tells
     tells_calls marks asked answer (Stops.Agent AgentStops.Usage) tells e = absurd tells
-    tells_calls marks asked answer (Stops.Agent (AgentStops.Lost message)) tells e = absurd tells
     tells_calls marks asked answer (Stops.Agent (AgentStops.Tables at kind)) tells e = absurd tells
     tells_calls marks asked answer (Stops.Agent (AgentStops.NotSpool at)) tells e = absurd tells
     tells_calls marks asked answer (Stops.Agent AgentStops.Disk) tells e = absurd tells
@@ -224,7 +222,6 @@ module _ {D E : Type 0} (h : Handed D E) (out : Output) (status : ℕ) where
   told_status asked answer (Stops.Agent (AgentStops.NoMailbox name)) tells e = inl e
   told_status asked answer (Stops.Agent AgentStops.Memory) tells e = absurd tells
   told_status asked answer (Stops.Agent AgentStops.Usage) tells e = absurd tells
-  told_status asked answer (Stops.Agent (AgentStops.Lost message)) tells e = absurd tells
   told_status asked answer (Stops.Agent (AgentStops.Tables at kind)) tells e = absurd tells
   told_status asked answer (Stops.Agent (AgentStops.NotSpool at)) tells e = absurd tells
   told_status asked answer (Stops.Agent AgentStops.Disk) tells e = absurd tells

@@ -10,4 +10,4 @@ loop-place-preserved c =
     let small : (k + 1) * round_size < 2 ^ 32 = omega (arith, c.requires.fits, c.loop-place-test.true) in
     subst (λ (z : Counts). IsWhole z 0 ((k + 1) * round_size)) (sym c.with-counts.ensures)
     (one_round_more c.loop-place.counts c.in_ok-more.field-0.counts k small c.loop-place.invariant
-    c.in_ok-more.ensures.passed.whole)
+    c.in_ok-more.ensures.whole)

@@ -1,13 +1,14 @@
-use Rattle.std.proofs.lemmas.Result.{IfOk-weaker}
-use Rattle.mta_links.specs.Links.{untold_link}
-use Rattle.mta_drill.specs.declared.link.LinkEnd.{LinkEnd}
-use Rattle.mta_drill.proofs.Telling.{got_called}
+use Rattle.std.proofs.Common.{Option, subst}
+use Rattle.mta_session.specs.declared.event.Event.{Event}
+use Rattle.mta_drill.specs.Acts.{IsOfReading}
+use Rattle.mta_drill.proofs.Telling.{got_called, got_falls}
 use Rattle.mta_drill.proofs.side.Side.read.Goals as goal
 
-pub returns-clause-called : goal.returns-clause-called
-returns-clause-called c =
-    let s = c.args.self.now in
-    IfOk-weaker c.tell.result _ _
-    (λ a told. got_called (untold_link (λ (l : LinkEnd). l.faults)) s.session s.link c.in_ok-event.event c.get.new.link
-    s.frames c.get.new.frames a c.tell.new.session c.requires.called c.in_ok-event.ensures.got told)
-    c.tell.ensures.told
+pub returns-in_ok-tell-in-Some-clause-done : goal.returns-in_ok-tell-in-Some-clause-done
+returns-in_ok-tell-in-Some-clause-done c =
+    let s = c.args.self.now.session in
+    let read = subst (λ (o : Option Event). IsOfReading o) c.in-Some.is c.in_ok-event.ensures.read in
+    let told = c.in_ok-tell-in-Some.ensures.told in (
+      got_called s c.in-Some.event c.requires.called read c.in_ok-tell-in-Some.field-0 c.tell.new.session told,
+      got_falls s c.in-Some.event c.requires.called read c.in_ok-tell-in-Some.field-0 c.tell.new.session told,
+    )

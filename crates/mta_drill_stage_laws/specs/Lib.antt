@@ -1,0 +1,10 @@
+pub mod Breaks
+pub mod Lines
+pub mod World
+pub mod Settings
+pub mod Stages
+pub mod Opening
+pub mod Recovering
+pub mod Starting
+pub mod Sessions
+pub mod Laws

@@ -1,0 +1,4 @@
+pub mod Items
+pub mod First
+pub mod Second
+pub mod States

@@ -1,0 +1,5 @@
+pub mod Holding
+pub mod Listening
+pub mod Calls
+pub mod Answers
+pub mod Pieces
