@@ -15,3 +15,14 @@ pub struct Message<'a> {
     pub place: Option<Place>,
     pub ghost no_length: { envelope.length ≡ None },
 }
+
+impl Message<'_> {
+    ghost use Rattle.mta_envelope.specs.Contents.{octets_of};
+
+    /// The octets of its content, lent.
+    pub fn content(&self) -> &[u8]
+        ensures { result.now ≡ octets_of self.now.content }
+    {
+        self.content.as_slice()
+    }
+}
