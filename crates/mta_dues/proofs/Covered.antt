@@ -10,7 +10,7 @@ use Rattle.mta_machine.specs.Items.{numbered}
 use Rattle.mta_state.specs.declared.rest.Span.{Span}
 use Rattle.mta_state.specs.Spans.{has}
 use Rattle.mta_dues.specs.Spans.{AreClosed, AreCovered, Covers, IsCovered, IsLearnt, IsNextOpen}
-use Rattle.mta_dues.specs.Spans.{NoneOpenBetween, is_open, joined, open_by, widened, widened_by}
+use Rattle.mta_dues.specs.Spans.{NoneOpenBetween, held_as, is_open, joined, open_by, widened, widened_by}
 
 -- ---- lists
 
@@ -220,10 +220,10 @@ learnt_none old new number span same i s is =
     inl (subst (λ (spans : List Span). numbered spans i ≡ Some s) same is)
 
 pub learnt_one : (old new : List Span) (number : ℕ) (span : Span) → number ≡ length old + 1
-    → new ≡ old ++ span ∷ [] → IsLearnt old new number span
+    → new ≡ old ++ held_as span ∷ [] → IsLearnt old new number span
 learnt_one old new number span next more zero s is = absurd cc
 learnt_one old new number span next more (suc n) s is =
-    elim (got old span s n (subst (λ (spans : List Span). slice_get spans n ≡ Some s) more is)) [
+    elim (got old (held_as span) s n (subst (λ (spans : List Span). slice_get spans n ≡ Some s) more is)) [
       | inl before ↦ inl before
       | inr last ↦ inr ((let e = last.0 in omega (arith, next, e)), last.1)
     ]

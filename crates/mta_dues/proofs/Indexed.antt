@@ -1,8 +1,8 @@
 -- What is known of items, as the index changes, and as steps are made.
 use Rattle.std.proofs.Common.{inl, inr, ◌≡◌, ◌≢◌, ◌<◌, ◌++◌, ◌≤◌, ℕ, zero, suc, List, [], ◌∷◌, Option, Some}
-use Rattle.std.proofs.Common.{None, length, refl, sym, ap, subst, ◌∙◌, arith}
-use Rattle.std.specs.Prelude.{◌⊎◌, slice_get}
-use Rattle.std.proofs.lemmas.Bool.{cases_eq}
+use Rattle.std.proofs.Common.{Bool, true, false, None, length, refl, sym, ap, subst, ◌∙◌, arith}
+use Rattle.std.specs.Prelude.{◌⊎◌, ◌&&◌, if◌then◌else◌, max, nat_le, nat_lt, slice_get}
+use Rattle.std.proofs.lemmas.Bool.{cases_eq, le-leb, leb-true, lt-ltb, ltb-true}
 use Rattle.std.proofs.lemmas.Option.{same_Some}
 use Rattle.mta_machine.specs.Items.{ItemValue, numbered}
 use Rattle.mta_machine.specs.Machine.{machine_run}
@@ -13,7 +13,7 @@ use Rattle.mta_idle_laws.proofs.Kept.{idle_later, items_go_on, verdict_later}
 use Rattle.mta_idle_laws.proofs.Stays.{idle_until_next, verdicts_stay}
 use Rattle.mta_machine.specs.Machine.{relay_by}
 use Rattle.mta_state.specs.declared.rest.Span.{Span}
-use Rattle.mta_state.specs.Spans.{IsSpanFor}
+use Rattle.mta_state.specs.Spans.{IsSpanFor, has}
 use Rattle.mta_dues.specs.Agendas.{AgendaValue, IsAside, IsLetGo, IsPutOff, KeepsAll, Rests}
 use Rattle.mta_state.specs.Readings.{IsDecodedOf}
 use Rattle.mta_dues.specs.declared.hand.Hand.{Hand}
@@ -21,7 +21,7 @@ use Rattle.mta_dues.specs.declared.index.Index.{Index}
 use Rattle.mta_dues.specs.declared.looked.Looked.{Looked}
 use Rattle.mta_dues.specs.Index.{AreSpansIn, HasPending, IndexesStay, IsAtHand, IsAtRestIn, IsIndexed, IsOfHand, IsSpanIn}
 use Rattle.mta_dues.specs.Looked.{AreIdleUpTo, IsLooked, looked_up_to}
-use Rattle.mta_dues.specs.Spans.{IsLearnt}
+use Rattle.mta_dues.specs.Spans.{IsLearnt, held_as}
 use Rattle.mta_dues.proofs.Covered.{learnt_one}
 use Rattle.mta_dues.proofs.Waiting.{looked_so}
 
@@ -114,6 +114,34 @@ change_later format text item moment until idle =
 
 -- ---- spans
 
+both : (a b : Bool) → (a && b) ≡ true → (a ≡ true) × (b ≡ true)
+both true true is = (refl, refl)
+both true false is = absurd cc
+both false b is = absurd cc
+
+later_end : (until moment : ℕ) → moment < until
+    → moment < (if nat_lt until 4294967295 then until else max until 18446744073709551615)
+later_end until moment before = by_test (nat_lt until 4294967295)
+  where
+    by_test : (b : Bool) → moment < (if b then until else max until 18446744073709551615)
+    by_test true = before
+    by_test false = omega (arith, before)
+
+-- what is held of a span has what it has
+held_has : (span : Span) (moment : ℕ) → has span moment ≡ true → has (held_as span) moment ≡ true
+held_has span moment is =
+    let parts = both (nat_le span.from moment) (nat_lt moment span.until) is in
+    let from : span.from ≤ moment = leb-true span.from moment parts.0 in
+    let until : moment < span.until = ltb-true moment span.until parts.1 in
+    let held = held_as span in
+    ap (λ b. b && nat_lt moment held.until) (le-leb held.from moment (omega (arith, from)))
+    ∙ lt-ltb moment held.until (later_end span.until moment until)
+
+held_within : (format : ℕ) (text : List ℕ) (item : ItemValue) (span : Span) → IsSpanFor format text item span
+    → IsSpanFor format text item (held_as span)
+held_within format text item span within r moment peer pending relayed =
+    held_has span moment (within r moment peer pending relayed)
+
 -- a span more is known
 pub learnt : (format : ℕ) (text : List ℕ) (items : List ItemValue) (old new : Index) (number : ℕ) (item : ItemValue)
     (span : Span) → IsLearnt old.spans new.spans number span → new.agenda ≡ old.agenda → new.hand ≡ old.hand
@@ -125,18 +153,19 @@ learnt format text items old new number item span learns agenda hand looked item
   hand = same_hand items old new hand indexed.hand;
   looked = same_looked format text items old new looked indexed.looked;
 } where
-  by_learning : (i : ℕ) (s : Span) → (numbered old.spans i ≡ Some s) ⊎ ((i ≡ number) × (s ≡ span))
+  by_learning : (i : ℕ) (s : Span) → (numbered old.spans i ≡ Some s) ⊎ ((i ≡ number) × (s ≡ held_as span))
       → IsSpanIn format text items i s
   by_learning i s (inl before) = indexed.spans i s before
   by_learning i s (inr here) = record {
     item = item;
     item_is = ap (λ (j : ℕ). numbered items j) here.0 ∙ item_is;
-    within = subst (λ (x : Span). IsSpanFor format text item x) (sym here.1) within;
+    within = subst (λ (x : Span). IsSpanFor format text item x) (sym here.1)
+        (held_within format text item span within);
   }
 
 -- the span of the next item is known
 pub learnt_next : (format : ℕ) (text : List ℕ) (items : List ItemValue) (old new : Index) (item : ItemValue)
-    (span : Span) → new.spans ≡ old.spans ++ span ∷ [] → new.agenda ≡ old.agenda → new.hand ≡ old.hand
+    (span : Span) → new.spans ≡ old.spans ++ held_as span ∷ [] → new.agenda ≡ old.agenda → new.hand ≡ old.hand
     → new.looked ≡ old.looked → slice_get items (length old.spans) ≡ Some item → IsSpanFor format text item span
     → IsIndexed format text items old → IsIndexed format text items new
 learnt_next format text items old new item span is agenda hand looked item_is within indexed =

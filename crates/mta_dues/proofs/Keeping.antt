@@ -1,13 +1,12 @@
 -- What is aside, and what rests, as an agenda changes.
-use Rattle.std.proofs.Common.{inl, inr, ◌≡◌, ◌≢◌, ℕ, zero, suc, ◌+◌, ◌≤◌, ◌<◌, Bool, true, false, cond, List, [], ◌∷◌}
-use Rattle.std.proofs.Common.{length, Option, Some, None, refl, sym, ap, subst, ◌∙◌, arith}
-use Rattle.std.specs.Prelude.{◌⊎◌, ◌↔◌, ◌||◌, max, slice_get, IfSome, IsSome}
+use Rattle.std.proofs.Common.{inl, inr, ◌≡◌, ◌≢◌, ℕ, ◌+◌, ◌≤◌, ◌<◌, Bool, true, false, cond, List, [], ◌∷◌}
+use Rattle.std.proofs.Common.{length, Option, Some, None, refl, sym, ap, ◌∙◌, arith}
+use Rattle.std.specs.Prelude.{◌⊎◌, ◌↔◌, max, slice_get, IsSome}
 use Rattle.std.specs.declared.cmp.Ordering.{Ordering}
-use Rattle.std.specs.declared.cmp.Ordering.TheVariants.{Less, Equal, Greater}
 use Rattle.std.specs.Ordering.{is_eq, is_gt, nat_cmp, ordering_then}
 use Rattle.std.specs.BTreeMap.{is_at}
 use Rattle.std.specs.BTreeSet.{BTreeSet, contains, contains_by, IsLowerBound, Updates, UpdatesBy}
-use Rattle.std.proofs.lemmas.Bool.{cases_lt, or_cases}
+use Rattle.std.proofs.lemmas.Bool.{cases_lt}
 use Rattle.std.proofs.lemmas.Cmp.{by_ranked, ranked}
 use Rattle.mta_dues.specs.Agendas.{AgendaValue, AllLater, IsAllCalled, IsAside, IsFirst, IsLetGo, IsPutOff, KeepsAll}
 use Rattle.mta_dues.specs.Agendas.{is_active, is_later, pair_cmp, Rests}
@@ -209,6 +208,15 @@ put_off old new number moment until known since later updates above = record {
   at count all u i (inr here) =
       let same : until ≡ u = same-moment until u (nat_cmp number i) here in
       omega (arith, above, same)
+
+-- who rests until a moment rests until one behind it at the latest
+pub put_off_by : (old new : AgendaValue) (number moment short until : ℕ) → short ≤ until
+    → IsPutOff old new number moment short → IsPutOff old new number moment until
+put_off_by old new number moment short until most off = record {
+  others = off.others;
+  within = λ n r. (let at = off.within n r in (at.0, (let less = at.1 in omega (arith, less, most))));
+  called = off.called;
+}
 
 pub let_go : (old : AgendaValue) (active : BTreeSet ℕ) (number : ℕ)
     → UpdatesBy nat_cmp (nat_cmp number) old.active active false

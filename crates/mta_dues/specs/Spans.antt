@@ -1,6 +1,6 @@
 -- The spans in which the first items may be relayed, and the blocks of numbers over them.
 use Rattle.std.specs.Prelude.{◌≡◌, ◌≤◌, ◌<◌, ◌+◌, ◌*◌, ◌⊎◌, ℕ, zero, suc, Bool, true, false, List, get_or, length}
-use Rattle.std.specs.Prelude.{Option, Some, None, max, min, slice_get, slice_set}
+use Rattle.std.specs.Prelude.{Option, Some, None, if◌then◌else◌, max, min, nat_lt, slice_get, slice_set}
 use Rattle.mta_machine.specs.Items.{numbered}
 use Rattle.mta_state.specs.declared.rest.Span.{Span}
 use Rattle.mta_state.specs.Spans.{has}
@@ -33,11 +33,22 @@ abbrev pub IsNextOpen : List Span → List ℕ → (from moment : ℕ) → Optio
 IsNextOpen spans numbers from moment None = NoneOpenBetween spans numbers from (length numbers) moment
 IsNextOpen spans numbers from moment (Some place) = IsOpenAt spans numbers from moment place
 
--- what is known was known before, or is this
+-- the end for which one of 32 bits stands: the last of them for the last one of 64
+abbrev pub end_of : ℕ → ℕ
+end_of until = if nat_lt until 4294967295 then until else 18446744073709551615
+
+-- the span that is held of a span: it has what that has, and its ends have 32 bits
+abbrev pub held_as : Span → Span
+held_as span = record {
+  from = min span.from 4294967295;
+  until = if nat_lt span.until 4294967295 then span.until else max span.until 18446744073709551615;
+}
+
+-- what is known was known before, or is what is held of this
 abbrev pub IsLearnt : (old new : List Span) → ℕ → Span → Type 0
 IsLearnt old new number span =
     (i : ℕ) (s : Span) → numbered new i ≡ Some s → (numbered old i ≡ Some s)
-    ⊎ ((i ≡ number) × (s ≡ span))
+    ⊎ ((i ≡ number) × (s ≡ held_as span))
 
 -- ---- blocks
 

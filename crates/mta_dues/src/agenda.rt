@@ -1,6 +1,6 @@
 //! What is to be looked at now, and until when the rest need not be.
 
-ghost use Rattle.std.specs.Prelude.{◌≡◌, ◌+◌, ◌≤◌, ◌<◌, ◌^◌, true, length, OnOk};
+ghost use Rattle.std.specs.Prelude.{◌≡◌, ◌+◌, ◌≤◌, ◌<◌, ◌^◌, true, length, min, OnOk};
 ghost use Rattle.mta_dues.specs.Agendas.{AllLater, IsAllCalled, IsFirst, IsFirstCome, IsLetGo, IsPutOff};
 ghost use Rattle.mta_dues.specs.Agendas.{is_active, KeepsAll};
 ghost use Rattle.mta_dues.specs.Next.{IsNextIn};
@@ -17,8 +17,8 @@ use std::marker::Model;
 pub struct Agenda {
     // Those to be looked at.
     active: BTreeSet<u32>,
-    // When others become active again.
-    later: BTreeSet<(u64, u32)>,
+    // When others become active again, at the latest at the last moment of 32 bits, which is behind the year 2080.
+    later: BTreeSet<(u32, u32)>,
     // The last moment at which one was put off.
     since: u64,
     // Numbers up to this one are known.
@@ -31,6 +31,13 @@ impl Model for Agenda {
     ghost Value = { AgendaValue };
 
     ghost view = { λ a. record { active = a.active; later = a.later; since = a.since; known = a.known } };
+}
+
+// This moment, or the last one of 32 bits before it.
+fn short_of(moment: u64) -> u32
+    ensures { result ≡ min moment 4294967295 }
+{
+    moment.min(u32::MAX as u64) as u32
 }
 
 impl Agenda {
@@ -109,7 +116,7 @@ impl Agenda {
         match self.later.first() {
             None => None,
             Some(first) => {
-                if first.0 <= moment {
+                if first.0 as u64 <= moment {
                     Some(first.1)
                 } else {
                     None
@@ -164,13 +171,18 @@ impl Agenda {
         self.active.contains(&number)
     }
 
-    /// An active number rests from a moment on until another, if there is memory to note it: else it stays active.
+    /// An active number rests from a moment on until another, or until the last one of 32 bits, if there is memory to
+    /// note it: else it stays active.
     pub fn put_off(&mut self, number: u32, moment: u64, until: u64)
         requires active { is_active self.old number ≡ true }
         requires later { moment < until }
         ensures { IsPutOff self.old self.new number moment until }
     {
-        match self.later.insert((until, number)) {
+        let short = short_of(until);
+        if short as u64 <= moment {
+            return;
+        }
+        match self.later.insert((short, number)) {
             Ok(_) => {
                 self.active.remove(&number);
                 self.since = self.since.max(moment);

@@ -23,7 +23,7 @@ pub(crate) fn nobody() -> Span
         → IsSpanFor format text item result }
 {
     Span {
-        from: u64::MAX,
+        from: u32::MAX as u64,
         until: 0,
     }
 }
@@ -69,7 +69,8 @@ fn learn_next<R: Rules>(
 {
     let item = &kept.parts.items.as_slice()[index.spans.count()];
     let span = span_of(alloc, rules, item)?;
-    index.spans.push(span)
+    index.spans.push(span)?;
+    Ok(())
 }
 
 /// The span of each item is known. Those are read of which it was not, where somebody is pending.

@@ -5,7 +5,8 @@ ghost use Rattle.std.specs.Prelude.{OnErr, OnOk, slice_get};
 ghost use Rattle.std.specs.Option.{option_copied};
 ghost use Rattle.mta_lanes.specs.Order.{AreInOrder};
 ghost use Rattle.mta_state.specs.declared.rest.Span.{Span};
-ghost use Rattle.mta_dues.specs.Spans.{AreClosed, AreCovered, IsLearnt, IsNextOpen, is_open, widened};
+ghost use Rattle.mta_dues.specs.Spans.{AreClosed, AreCovered, IsLearnt, IsNextOpen, held_as, is_open};
+ghost use Rattle.mta_dues.specs.Spans.{widened};
 
 use mta_ber::Memory;
 use mta_state::Span;
@@ -15,11 +16,54 @@ use std::marker::Model;
 /// How many numbers there are in a block: the first is 0.
 const BLOCK: u32 = 1024;
 
+// A span in half the memory. As an end the last moment of 32 bits, in the year 2086, stands for the last one of 64.
+#[derive(Drop)]
+struct Short {
+    from: u32,
+    until: u32,
+}
+
+impl Model for Short {
+    ghost use Rattle.mta_state.specs.declared.rest.Span.{Span};
+    ghost use Rattle.mta_dues.specs.Spans.{end_of};
+
+    ghost Value = { Span };
+
+    ghost view = { λ s. record { from = s.from; until = end_of s.until } };
+}
+
+impl Short {
+    // What has the moments of a span that have 32 bits.
+    fn of(span: Span) -> Short
+        ensures { result ≡ held_as span }
+    {
+        Short {
+            from: span.from.min(u32::MAX as u64) as u32,
+            until: span.until.min(u32::MAX as u64) as u32,
+        }
+    }
+
+    // The span that it stands for.
+    fn span(&self) -> Span
+        ensures { result ≡ self.now }
+    {
+        let until = if self.until < u32::MAX {
+            self.until as u64
+        } else {
+            u64::MAX
+        };
+        Span {
+            from: self.from as u64,
+            until,
+        }
+    }
+}
+
 /// The spans of the first items, up to some number from 1 on. A block of numbers that no span of has a moment is passed
 /// over at once, so that a look costs by how many blocks there are, and by the numbers of those that may have one.
 #[derive(Drop)]
 pub struct Spans {
-    each: Vec<Span>,
+    each: Vec<Short>,
     // Of each block a span that has what those in it have.
     blocks: Vec<Span>,
 }
@@ -55,13 +99,14 @@ impl Spans {
         self.each.len()
     }
 
-    /// The span of the next item.
+    /// The span of the next item. It is held in 32 bits: an end behind the last moment that they say is none.
     pub fn push(&mut self, span: Span) -> Result<(), Memory>
-        ensures more { OnOk result (self.new ≡ self.old ++ span ∷ []) }
+        ensures more { OnOk result (self.new ≡ self.old ++ held_as span ∷ []) }
         ensures same { OnErr result (self.new ≡ self.old) }
     {
-        cover(&mut self.blocks, self.each.len(), span)?;
-        self.each.push(span)?;
+        let short = Short::of(span);
+        cover(&mut self.blocks, self.each.len(), short.span())?;
+        self.each.push(short)?;
         Ok(())
     }
 
@@ -88,7 +133,7 @@ impl Spans {
         }
         match self.each.get(number as usize - 1) {
             None => true,
-            Some(span) => span.has(moment),
+            Some(short) => short.span().has(moment),
         }
     }
 

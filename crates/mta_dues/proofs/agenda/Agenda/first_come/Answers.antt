@@ -1,4 +1,4 @@
-use Rattle.std.proofs.Common.{◌≤◌, ℕ, Option, Some, None, subst, arith}
+use Rattle.std.proofs.Common.{subst, arith}
 use Rattle.mta_dues.specs.Agendas.{AgendaValue, AllLater, IsFirst}
 use Rattle.mta_dues.proofs.Keeping.{all_later, first_is, none_later, nothing_first}
 use Rattle.mta_dues.proofs.agenda.Agenda.first_come.Goals as goal

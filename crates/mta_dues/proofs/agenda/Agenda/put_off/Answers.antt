@@ -1,6 +1,6 @@
-use Rattle.std.proofs.Common.{refl, subst}
+use Rattle.std.proofs.Common.{◌≤◌, ◌<◌, refl, subst, arith}
 use Rattle.mta_dues.specs.Agendas.{AgendaValue, IsPutOff}
-use Rattle.mta_dues.proofs.Keeping.{put_off}
+use Rattle.mta_dues.proofs.Keeping.{put_off, put_off_by}
 use Rattle.mta_dues.proofs.agenda.Agenda.put_off.Goals as goal
 
 pub returns-in-Ok : goal.returns-in-Ok
@@ -13,6 +13,10 @@ returns-in-Ok c =
       since = c.max-self-inside.result;
       known = a.known;
     } in
+    let short = c.short_of-short.result in
+    let later : c.args.moment < short = omega (arith, c.if-short-moment.false) in
+    let most : short ≤ c.args.until = omega (arith, c.short_of-short.ensures) in
     subst (λ (x : AgendaValue). IsPutOff x new c.args.number c.args.moment c.args.until) c.self.view_is
-    (put_off old new c.args.number c.args.moment c.args.until refl c.max-self-inside.ensures
-    c.in-Ok.ensures.updates c.remove.ensures.updates c.requires.later)
+    (put_off_by old new c.args.number c.args.moment short c.args.until most
+    (put_off old new c.args.number c.args.moment short refl c.max-self-inside.ensures
+    c.in-Ok.ensures.updates c.remove.ensures.updates later))
