@@ -9,7 +9,6 @@ pub mod Compacted
 pub mod WaysOn
 pub mod Given
 pub mod Lengths
-pub mod InBody
 pub mod Looking
 pub mod Making
 pub mod Numbers

@@ -40,14 +40,15 @@ use Rattle.mta_state.specs.Kept.{state_of}
 use Rattle.mta_state.specs.Prepared.{IsChangeOf}
 use Rattle.mta_replay.proofs.Completing.{complete_changes}
 use Rattle.mta_spool.specs.OnLanes.{refusal_on}
-use Rattle.mta_spool.specs.Receiving.{IsBad, IsExpected, IsFaultOn, IsItemOn, IsNoApdu, IsTooLong, Receives}
-use Rattle.mta_spool.specs.Receiving.{step_fault_of}
+use Rattle.mta_spool.specs.Receiving.{IsBad, IsExpected, IsFaultOn, IsItemOn, IsMemoryOrSpent, IsNoApdu, IsTooLong}
+use Rattle.mta_spool.specs.Receiving.{Receives, step_fault_of}
 use Rattle.mta_spool.specs.Refusals.{ExpectsPiece, IsFenced, IsRefused, LaneExpects}
 use Rattle.mta_spool.specs.Shown.{AtOpening, Shown}
 use Rattle.mta_spool.specs.Stands.{Appends, IsSpent, Makes}
 use Rattle.mta_spool.specs.Turning.{IsUnchanged}
-use Rattle.mta_spool.proofs.Making.{refused_for_lane}
+use Rattle.mta_spool.proofs.Making.{is_spent, no_memory, refused_for_lane}
 use Rattle.mta_spool.proofs.OnLanes.{lane_possible}
+use Rattle.mta_spool.proofs.Refused.{allowed}
 
 -- ---- whether the lane takes it
 
@@ -442,6 +443,89 @@ receives_along model step Bad old mid new result same receives =
     (subst (λ (s : State). ReceivesBy model step Bad old.clock old.opened new result old.journal s mid.entries) same.1
     (subst (λ (j : JournalShown _). ReceivesBy model step Bad old.clock old.opened new result j mid.current mid.entries)
     same.0 (record { appends = receives.appends; bad = receives.bad; bad_where = receives.bad_where })))
+
+-- a piece that its lane takes, with octets that may be secured
+module _ {D C : Type 0} (model : DiskView D) (old : Shown D C) (n g activity number : ℕ) (piece : List ℕ)
+    (on : IsOnLane old.current n (Some g) (secure activity number piece) old.current.moment) where
+  abbrev Secures : Shown D C → Result (Unit {0}) CompleteFault → Type 0
+  Secures new result =
+      Receives model (steps.Secure n g activity number piece)
+      (λ f. IsBad old.current n g (secure activity number piece) old.current.moment (IsTooLong number piece f)) old new
+      result
+
+  pub secured : (new : Shown D C) (result : Result (Unit {0}) CompleteFault) (fault : Option StepFault)
+      → step_fault_of result ≡ Some fault
+      → Appends model (steps.Secure n g activity number piece) old new fault → Secures new result
+  secured new result fault is made =
+      step_receives model (steps.Secure n g activity number piece)
+      (λ f. IsBad old.current n g (secure activity number piece) old.current.moment (IsTooLong number piece f)) old new
+      (λ f bad. not_too_long old.current n g activity number piece old.current.moment on f bad) result fault is made
+
+  -- there was no memory to hold it
+  pub secure_no_memory : old.journal.ended ≡ false → length old.current.machine.items < 2 ^ 32
+      → Secures old (Err (CompleteFaults.Step Faults.Memory))
+  secure_no_memory going few =
+      secured old (Err (CompleteFaults.Step Faults.Memory)) (Some Faults.Memory) refl
+      (no_memory model (steps.Secure n g activity number piece) old.journal old.journal old.current old.current refl
+      refl going (secure_numbers old.current n g activity number piece few)
+      (λ f is. allowed old.current (class_of (steps.Secure n g activity number piece)) old.current.moment f on is))
+
+-- the last piece, with octets that spell an APDU, and nothing changed yet
+module _ {D C : Type 0} (model : DiskView D) (old mid : Shown D C) (n g activity number : ℕ) (piece : List ℕ)
+    (moment : ℕ) (same : mid ≡ old) where
+  abbrev Completes : Shown D C → Result ℕ CompleteFault → Type 0
+  Completes new result =
+      Receives model (steps.Complete n g activity number piece moment)
+      (λ f. IsBad old.current n g (complete activity number piece) moment (IsNoApdu number piece f)) old new result
+
+  -- it is refused before
+  pub last_refused : (result : Result ℕ CompleteFault) → Completes old result → Completes mid result
+  last_refused result refused = subst (λ (v : Shown D C). Completes v result) (sym same) refused
+
+  pub completed : IsOnLane old.current n (Some g) (complete activity number piece) moment
+      → (new : Shown D C) (result : Result ℕ CompleteFault) (fault : Option StepFault)
+      → step_fault_of result ≡ Some fault
+      → Appends model (steps.Complete n g activity number piece moment) mid new fault → Completes new result
+  completed on new result fault is made =
+      step_receives model (steps.Complete n g activity number piece moment)
+      (λ f. IsBad old.current n g (complete activity number piece) moment (IsNoApdu number piece f)) old new
+      (λ f bad. not_no_apdu old.current n g activity number piece moment on f bad) result fault is
+      (subst (λ (v : Shown D C). Appends model (steps.Complete n g activity number piece moment) v new fault) same made)
+
+  no-memory-left : IsOnLane old.current n (Some g) (complete activity number piece) moment
+      → old.journal.ended ≡ false → (fault : StepFault)
+      → IsMemoryOrSpent (length old.current.machine.items) 2 fault
+      → Appends model (steps.Complete n g activity number piece moment) old old (Some fault)
+  no-memory-left on going fault (inl memory) =
+      subst (λ (f : StepFault). Appends model (steps.Complete n g activity number piece moment) old old (Some f))
+      (sym memory.0)
+      (no_memory model (steps.Complete n g activity number piece moment) old.journal old.journal old.current old.current
+      refl refl going
+      (complete_numbers old.current n g activity number piece moment
+      (expected_on old.current n g activity number piece moment on) memory.1)
+      (λ f is. allowed old.current (class_of (steps.Complete n g activity number piece moment)) moment f on is))
+  no-memory-left on going fault (inr spent) =
+      subst (λ (f : StepFault). Appends model (steps.Complete n g activity number piece moment) old old (Some f))
+      (sym spent.0)
+      (is_spent model (steps.Complete n g activity number piece moment) (length old.current.machine.items) old.journal
+      old.journal old.current old.current refl refl going refl
+      (complete_spent old.current n g activity number piece moment
+      (expected_on old.current n g activity number piece moment on) spent.1)
+      (λ f is. allowed old.current (class_of (steps.Complete n g activity number piece moment)) moment f on is))
+
+  -- there was no memory to hold it
+  pub complete_no_memory : IsOnLane old.current n (Some g) (complete activity number piece) moment
+      → old.journal.ended ≡ false → (fault : StepFault)
+      → IsMemoryOrSpent (length mid.current.machine.items) 2 fault
+      → Completes mid (Err (CompleteFaults.Step fault))
+  complete_no_memory on going fault is =
+      last_refused (Err (CompleteFaults.Step fault))
+      (step_receives model (steps.Complete n g activity number piece moment)
+      (λ f. IsBad old.current n g (complete activity number piece) moment (IsNoApdu number piece f)) old old
+      (λ f bad. not_no_apdu old.current n g activity number piece moment on f bad) (Err (CompleteFaults.Step fault))
+      (Some fault) refl
+      (no-memory-left on going fault
+      (subst (λ (v : Shown D C). IsMemoryOrSpent (length v.current.machine.items) 2 fault) same is)))
 
 -- ---- what a Complete changes
 

@@ -95,6 +95,47 @@ impl<D: Disk + Drop, C: Clock + Drop> Spool<D, C> {
         }
     }
 
+    // Refuses a piece where the spool has ended, the lane does not take it, or the octets up to it are too many.
+    fn check_secure(
+        &self,
+        lane: u32,
+        generation: u64,
+        activity: u32,
+        number: u32,
+        piece: &[u8],
+    ) -> Result<(), CompleteFault>
+        ensures going { IfOk result (λ _. self.now.journal.ended ≡ false) }
+        ensures allowed { IfOk result (λ _. IsOnLane self.now.current lane (Some generation)
+            (secure activity number piece.now) self.now.current.moment) }
+        ensures refused { IfErr result (λ _. Receives D.model (Steps.Secure lane generation activity number piece.now)
+            (λ f. IsBad self.now.current lane generation (secure activity number piece.now) self.now.current.moment
+            (IsTooLong number piece.now f))
+            self.now self.now result) }
+        ensures too_long { self.now.journal.ended ≡ false → (f : Fault)
+            → IsBad self.now.current lane generation (secure activity number piece.now) self.now.current.moment
+            (IsTooLong number piece.now f) → result ≡ Err (CompleteFaults.Bad f) }
+        ensures few { length self.now.current.machine.items < 2 ^ 32 }
+    {
+        if self.journal.is_ended() {
+            return Err(CompleteFault::Step(StepFault::Ended));
+        }
+        if !self.expects_piece(lane, generation, activity, number, piece) {
+            let fault = refusal_on(&self.replay.kept.lanes, lane, generation);
+            return Err(CompleteFault::Step(fault));
+        }
+        if !self
+            .replay
+            .kept
+            .may_secure(lane, generation, activity, number, piece)
+        {
+            return Err(CompleteFault::Bad(Fault {
+                at: LONGEST_ACTIVITY,
+                kind: Kind::TooLong,
+            }));
+        }
+        Ok(())
+    }
+
     // Makes a piece durable that the lane takes.
     fn make_secure(
         &mut self,
@@ -102,25 +143,31 @@ impl<D: Disk + Drop, C: Clock + Drop> Spool<D, C> {
         generation: u64,
         activity: u32,
         number: u32,
-        piece: &[u8],
-    ) -> Result<(), StepFault>
+        piece: Octets,
+    ) -> Result<(), CompleteFault>
         requires going { self.old.journal.ended ≡ false }
-        requires allowed { IsOnLane self.old.current lane (Some generation) (secure activity number piece.now)
+        requires allowed { IsOnLane self.old.current lane (Some generation) (secure activity number piece)
             self.old.current.moment }
-        ensures made { Appends D.model (Steps.Secure lane generation activity number piece.now) self.old self.new
-            (fault_of result) }
+        requires few { length self.old.current.machine.items < 2 ^ 32 }
+        ensures receives { Receives D.model (Steps.Secure lane generation activity number piece)
+            (λ f. IsBad self.old.current lane generation (secure activity number piece) self.old.current.moment
+            (IsTooLong number piece f))
+            self.old self.new result }
         ensures clock { self.new.clock ≡ self.old.clock }
         ensures opened { self.new.opened ≡ self.old.opened }
         ensures keeps { KeepsOn D.model C.model self.old self.new }
     {
-        let piece = Octets::from_slice(self.alloc, piece)?;
-        self.make(Step::Secure {
+        let step = Step::Secure {
             lane,
             generation,
             activity,
             number,
             piece,
-        })
+        };
+        match self.make(step) {
+            Ok(()) => Ok(()),
+            Err(fault) => Err(CompleteFault::Step(fault)),
+        }
     }
 
     /// Makes a piece of an activity of the peer durable, in place of this piece and all behind it. Pieces are numbered
@@ -147,27 +194,38 @@ impl<D: Disk + Drop, C: Clock + Drop> Spool<D, C> {
         ensures opened { self.new.opened ≡ self.old.opened }
         ensures keeps { KeepsOn D.model C.model self.old self.new }
     {
-        if self.journal.is_ended() {
-            return Err(CompleteFault::Step(StepFault::Ended));
-        }
-        if !self.expects_piece(lane, generation, activity, number, piece) {
-            let fault = refusal_on(&self.replay.kept.lanes, lane, generation);
-            return Err(CompleteFault::Step(fault));
-        }
-        if !self
-            .replay
-            .kept
-            .may_secure(lane, generation, activity, number, piece)
-        {
-            return Err(CompleteFault::Bad(Fault {
-                at: LONGEST_ACTIVITY,
-                kind: Kind::TooLong,
-            }));
-        }
-        match self.make_secure(lane, generation, activity, number, piece) {
-            Ok(()) => Ok(()),
-            Err(fault) => Err(CompleteFault::Step(fault)),
-        }
+        self.check_secure(lane, generation, activity, number, piece)?;
+        let Ok(piece) = Octets::from_slice(self.alloc, piece) else {
+            return Err(CompleteFault::Step(StepFault::Memory));
+        };
+        self.make_secure(lane, generation, activity, number, piece)
+    }
+
+    /// Makes a piece durable as `secure` does. It is handed over: the step takes its memory.
+    ///
+    /// # Errors
+    /// `Bad` of kind TooLong at 2,097,152 exactly where the pieces with this one pass 2,097,152 octets.
+    pub fn secure_octets(
+        &mut self,
+        lane: u32,
+        generation: u64,
+        activity: u32,
+        number: u32,
+        piece: Octets,
+    ) -> Result<(), CompleteFault>
+        ensures receives { Receives D.model (Steps.Secure lane generation activity number piece)
+            (λ f. IsBad self.old.current lane generation (secure activity number piece) self.old.current.moment
+            (IsTooLong number piece f))
+            self.old self.new result }
+        ensures too_long { self.old.journal.ended ≡ false → (f : Fault)
+            → IsBad self.old.current lane generation (secure activity number piece) self.old.current.moment
+            (IsTooLong number piece f) → result ≡ Err (CompleteFaults.Bad f) }
+        ensures clock { self.new.clock ≡ self.old.clock }
+        ensures opened { self.new.opened ≡ self.old.opened }
+        ensures keeps { KeepsOn D.model C.model self.old self.new }
+    {
+        self.check_secure(lane, generation, activity, number, piece.as_slice())?;
+        self.make_secure(lane, generation, activity, number, piece)
     }
 
     // The item that the pieces up to this one become, which the open lane takes, whose octets the lane holds too; or
@@ -189,6 +247,54 @@ impl<D: Disk + Drop, C: Clock + Drop> Spool<D, C> {
         shared_item(self.alloc, octets, Origin::Lane, moment)
     }
 
+    // What is told where there was no memory to look at the octets: too few numbers, where too few are left.
+    fn no_memory(&self) -> StepFault
+        ensures { IsMemoryOrSpent (length self.now.current.machine.items) 2 result }
+    {
+        match self.check_numbers(2) {
+            Ok(()) => StepFault::Memory,
+            Err(fault) => fault,
+        }
+    }
+
+    // The item that the last piece and those before it become. Refuses where the spool has ended, the lane does not
+    // take the piece, or the octets spell no APDU. The spool stays as it is.
+    fn last_item(
+        &mut self,
+        moment: u64,
+        lane: u32,
+        generation: u64,
+        activity: u32,
+        number: u32,
+        piece: &[u8],
+    ) -> Result<Item, CompleteFault>
+        ensures same { self.new ≡ self.old }
+        ensures going { IfOk result (λ _. self.old.journal.ended ≡ false) }
+        ensures allowed { IfOk result (λ _. IsOnLane self.old.current lane (Some generation)
+            (complete activity number piece.now) moment) }
+        ensures item { IfOk result
+            (IsItemOn (lane_at lane self.old.current.lanes.open_lanes) number piece.now moment) }
+        ensures refused { IfErr result (λ fault.
+            Receives {T = ℕ} D.model (Steps.Complete lane generation activity number piece.now moment)
+            (λ f. IsBad self.old.current lane generation (complete activity number piece.now) moment
+            (IsNoApdu number piece.now f))
+            self.old self.old (Err fault)) }
+    {
+        if self.journal.is_ended() {
+            return Err(CompleteFault::Step(StepFault::Ended));
+        }
+        if !self.expects_piece(lane, generation, activity, number, piece) {
+            let fault = refusal_on(&self.replay.kept.lanes, lane, generation);
+            return Err(CompleteFault::Step(fault));
+        }
+        let no_memory = self.no_memory();
+        match self.joined(lane, number, piece, moment) {
+            Ok(item) => Ok(item),
+            Err(ReadFault::Bad(fault)) => Err(CompleteFault::Bad(fault)),
+            Err(ReadFault::Memory) => Err(CompleteFault::Step(no_memory)),
+        }
+    }
+
     // Makes this item of an activity whose last piece this is, which the lane takes.
     fn make_complete(
         &mut self,
@@ -197,16 +303,15 @@ impl<D: Disk + Drop, C: Clock + Drop> Spool<D, C> {
         generation: u64,
         activity: u32,
         number: u32,
-        piece: &[u8],
+        piece: Octets,
         item: Item,
     ) -> Result<u32, StepFault>
         requires going { self.old.journal.ended ≡ false }
         requires timely { self.old.current.moment ≤ moment }
         requires fits { moment ≤ last_moment }
-        requires allowed { IsOnLane self.old.current lane (Some generation) (complete activity number piece.now)
-            moment }
-        requires item { IsItemOn (lane_at lane self.old.current.lanes.open_lanes) number piece.now moment item }
-        ensures made { Appends D.model (Steps.Complete lane generation activity number piece.now moment) self.old
+        requires allowed { IsOnLane self.old.current lane (Some generation) (complete activity number piece) moment }
+        requires item { IsItemOn (lane_at lane self.old.current.lanes.open_lanes) number piece moment item }
+        ensures made { Appends D.model (Steps.Complete lane generation activity number piece moment) self.old
             self.new (fault_of result) }
         ensures number { IfOk result (λ n. n ≡ length self.old.current.machine.items + 1) }
         ensures clock { self.new.clock ≡ self.old.clock }
@@ -214,8 +319,7 @@ impl<D: Disk + Drop, C: Clock + Drop> Spool<D, C> {
         ensures keeps { KeepsOn D.model C.model self.old self.new }
     {
         self.check_numbers(2)?;
-        let count = self.items().len() as u32 + 1;
-        let piece = Octets::from_slice(self.alloc, piece)?;
+        let count = self.replay.kept.parts.items.len() as u32 + 1;
         let step = Step::Complete {
             lane,
             generation,
@@ -250,18 +354,9 @@ impl<D: Disk + Drop, C: Clock + Drop> Spool<D, C> {
         ensures opened { self.new.opened ≡ self.old.opened }
         ensures keeps { KeepsOn D.model C.model self.old self.new }
     {
-        if self.journal.is_ended() {
-            return Err(CompleteFault::Step(StepFault::Ended));
-        }
-        if !self.expects_piece(lane, generation, activity, number, piece) {
-            let fault = refusal_on(&self.replay.kept.lanes, lane, generation);
-            return Err(CompleteFault::Step(fault));
-        }
-        let no_memory = self.no_memory();
-        let item = match self.joined(lane, number, piece, moment) {
-            Ok(item) => item,
-            Err(ReadFault::Bad(fault)) => return Err(CompleteFault::Bad(fault)),
-            Err(ReadFault::Memory) => return Err(CompleteFault::Step(no_memory)),
+        let item = self.last_item(moment, lane, generation, activity, number, piece)?;
+        let Ok(piece) = Octets::from_slice(self.alloc, piece) else {
+            return Err(CompleteFault::Step(self.no_memory()));
         };
         match self.make_complete(moment, lane, generation, activity, number, piece, item) {
             Ok(number) => Ok(number),
@@ -269,13 +364,31 @@ impl<D: Disk + Drop, C: Clock + Drop> Spool<D, C> {
         }
     }
 
-    // What is told where there was no memory to look at the octets: too few numbers, where too few are left.
-    fn no_memory(&self) -> StepFault
-        ensures { IsMemoryOrSpent (length self.now.current.machine.items) 2 result }
+    // Takes the last piece of an activity of the peer, which is handed over, at a moment.
+    fn complete_octets_at(
+        &mut self,
+        moment: u64,
+        lane: u32,
+        generation: u64,
+        activity: u32,
+        number: u32,
+        piece: Octets,
+    ) -> Result<u32, CompleteFault>
+        requires timely { self.old.current.moment ≤ moment }
+        requires fits { moment ≤ last_moment }
+        ensures receives { Receives D.model (Steps.Complete lane generation activity number piece moment)
+            (λ f. IsBad self.old.current lane generation (complete activity number piece) moment
+            (IsNoApdu number piece f))
+            self.old self.new result }
+        ensures number { IfOk result (λ n. n ≡ length self.old.current.machine.items + 1) }
+        ensures clock { self.new.clock ≡ self.old.clock }
+        ensures opened { self.new.opened ≡ self.old.opened }
+        ensures keeps { KeepsOn D.model C.model self.old self.new }
     {
-        match self.check_numbers(2) {
-            Ok(()) => StepFault::Memory,
-            Err(fault) => fault,
+        let item = self.last_item(moment, lane, generation, activity, number, piece.as_slice())?;
+        match self.make_complete(moment, lane, generation, activity, number, piece, item) {
+            Ok(number) => Ok(number),
+            Err(fault) => Err(CompleteFault::Step(fault)),
         }
     }
 
@@ -304,5 +417,32 @@ impl<D: Disk + Drop, C: Clock + Drop> Spool<D, C> {
     {
         let moment = self.step_moment();
         self.complete_at(moment, lane, generation, activity, number, piece)
+    }
+
+    /// Takes the last piece as `complete` does. It is handed over: the step takes its memory.
+    ///
+    /// # Errors
+    /// `Bad` exactly where the octets up to the piece spell no APDU, with their first fault; `Spent` where fewer than
+    /// two numbers of items are left.
+    pub fn complete_octets(
+        &mut self,
+        lane: u32,
+        generation: u64,
+        activity: u32,
+        number: u32,
+        piece: Octets,
+    ) -> Result<u32, CompleteFault>
+        ensures receives { AtMoment C.model self.old.clock self.old.current.moment
+            (λ m. Receives D.model (Steps.Complete lane generation activity number piece m)
+            (λ f. IsBad self.old.current lane generation (complete activity number piece) m
+            (IsNoApdu number piece f))
+            self.old self.new result) }
+        ensures number { IfOk result (λ n. n ≡ length self.old.current.machine.items + 1) }
+        ensures clock { TellsFewer C.model self.old.clock self.new.clock }
+        ensures opened { self.new.opened ≡ self.old.opened }
+        ensures keeps { KeepsOn D.model C.model self.old self.new }
+    {
+        let moment = self.step_moment();
+        self.complete_octets_at(moment, lane, generation, activity, number, piece)
     }
 }

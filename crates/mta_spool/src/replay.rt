@@ -1,13 +1,12 @@
 //! Replaying the bodies of a journal: the state in memory after them.
 //!
 //! In come the bodies and the offset of the first one's gate. Each body is read as a step (`read_record`), which is
-//! taken up where it is possible after those before it, as a step that is made is, without the journal. Its memory
-//! goes to the item of a submitted APDU or is freed, and its place in the list goes too (`Rest`). Out goes the state,
-//! or the place of the first body that is no such step, or want of memory. The disk is not called.
+//! taken up where it is possible after those before it, as a step that is made is, without the journal. It is freed
+//! then, and its place in the list goes too (`Rest`). Out goes the state, or the place of the first body that is no
+//! such step, or want of memory. The disk is not called.
 
-ghost use Rattle.std.specs.Prelude.{◌≡◌, ◌≤◌, ◌<◌, ◌+◌, ◌-◌, ◌^◌, drop, length, IfErr, IfOk};
+ghost use Rattle.std.specs.Prelude.{◌≡◌, ◌<◌, ◌+◌, ◌^◌, length, IfErr, IfOk};
 ghost use Rattle.mta_journal.specs.Bodies.{AreWithin, longest_first, records};
-ghost use Rattle.mta_records.specs.Body.{body_of};
 ghost use Rattle.mta_state.specs.Kept.{state_of};
 ghost use Rattle.mta_table_rules.specs.Text.{format_of, text_of};
 ghost use Rattle.mta_replay.specs.Sound.{IsSound};
@@ -15,47 +14,20 @@ ghost use Rattle.mta_spool.specs.Replaying.{HasReplayed, HasStopped, HasTaken, o
 
 use mta_ber::Octets;
 use mta_journal::{OpenWhy, Rest};
-use mta_records::{RecordFault, Step, read_record};
+use mta_records::{RecordFault, read_record};
 use mta_replay::{NotMade, Replay};
 use mta_table_rules::TableRules;
 use std::alloc::Global;
 
-// The last octets of a body, as many as are told, in its memory.
-fn last_of(body: Octets, count: usize) -> Octets
-    requires { count ≤ length body }
-    ensures { result ≡ drop (length body - count) body }
-{
-    let mut octets = body.into_vec();
-    let before = octets.len() - count;
-    octets.copy_within(before.., 0);
-    octets.truncate(count);
-    Octets::from_vec(octets)
-}
-
-// The step of a body, with a submitted APDU in the memory of the body, whose last octets it is. So the memory of bodies
-// goes to items, and what an allocator would cut out of bodies that are let go leaves no holes.
-fn in_body(step: Step, body: Octets) -> Step
-    requires { body_of step ≡ body }
-    ensures { result ≡ step }
-{
-    match step {
-        Step::Accept { moment, apdu } => {
-            let apdu = last_of(body, apdu.len());
-            Step::Accept { moment, apdu }
-        }
-        step => step,
-    }
-}
-
 // Takes up the step of a body, where it has one that is possible.
-fn take_up(replay: &mut Replay<TableRules>, alloc: Global, body: Octets) -> Result<(), NotMade>
-    requires fits { length body < 2 ^ 32 }
+fn take_up(replay: &mut Replay<TableRules>, alloc: Global, body: &[u8]) -> Result<(), NotMade>
+    requires fits { length body.now < 2 ^ 32 }
     requires sound { IsSound format_of text_of replay.old.kept replay.old.rules }
-    ensures taken { HasTaken body (state_of replay.old.kept) (state_of replay.new.kept) result }
+    ensures taken { HasTaken body.now (state_of replay.old.kept) (state_of replay.new.kept) result }
     ensures sound { IsSound format_of text_of replay.new.kept replay.new.rules }
 {
-    match read_record(alloc, body.as_slice()) {
-        Ok(step) => replay.add(alloc, in_body(step, body)),
+    match read_record(alloc, body) {
+        Ok(step) => replay.add(alloc, step),
         Err(RecordFault::BadRecord { .. }) => Err(NotMade::Impossible),
         Err(RecordFault::Memory) => Err(NotMade::Memory),
     }
@@ -84,9 +56,8 @@ pub fn replay(alloc: Global, first: u64, bodies: Vec<Octets>) -> Result<Replay<T
     let mut at = first;
     let mut rest = Rest::new(bodies);
     while let Some(body) = rest.next() {
-        let size = body.len() as u64 + 5;
-        match take_up(&mut replay, alloc, body) {
-            Ok(()) => at += size,
+        match take_up(&mut replay, alloc, body.as_slice()) {
+            Ok(()) => at += body.len() as u64 + 5,
             Err(why) => {
                 replay.discard();
                 return Err(open_why(why, at));

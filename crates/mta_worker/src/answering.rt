@@ -105,14 +105,14 @@ pub fn answer<D: Disk + Drop, C: Clock + Drop>(
             activity,
             number,
             piece,
-        } => Reply::Secure(spool.secure(lane, generation, activity, number, piece.as_slice())),
+        } => Reply::Secure(spool.secure_octets(lane, generation, activity, number, piece)),
         Ask::Complete {
             lane,
             generation,
             activity,
             number,
             piece,
-        } => Reply::Complete(spool.complete(lane, generation, activity, number, piece.as_slice())),
+        } => Reply::Complete(spool.complete_octets(lane, generation, activity, number, piece)),
         Ask::DropActivity {
             lane,
             generation,

@@ -18,11 +18,14 @@ take_up-requires-clause-fits c =
     c.next.new.self
     c.in-Some.body (state_of c.loop-body.replay.kept) c.loop-body.at c.requires.short c.loop-body.invariant.way
     c.in-Some.ensures.some in
-    omega (arith, short)
+    omega (arith, short, ap length c.as_slice.ensures)
 
-pub overflow_add-at : goal.overflow_add-at
-overflow_add-at c =
-    let taken = c.in-Ok.ensures.taken in
+pub overflow_add-at-in-Ok : goal.overflow_add-at-in-Ok
+overflow_add-at-in-Ok c =
+    let taken = subst
+    (λ (b : List ℕ).
+    HasTaken b (state_of c.loop-body.replay.kept) (state_of c.take_up.new.replay.kept) (Ok tt))
+    c.as_slice.ensures c.in-Ok.ensures.taken in
     let more = c.loop-body.at + (length c.in-Some.body + 5) in
     let next = under_way_further c.args.first c.args.bodies.items c.loop-body.rest
     c.next.new.self c.in-Some.body (state_of c.loop-body.replay.kept)
@@ -35,7 +38,11 @@ overflow_add-at c =
 
 pub returns-in-Err-clause-stopped : goal.returns-in-Err-clause-stopped
 returns-in-Err-clause-stopped c =
-    let taken = c.in-Err.ensures.taken in
+    let taken = subst
+    (λ (b : List ℕ).
+    HasTaken {T = Unit {0}} b (state_of c.loop-body.replay.kept) (state_of c.take_up.new.replay.kept)
+    (Err c.in-Err.why))
+    c.as_slice.ensures c.in-Err.ensures.taken in
     rw c.open_why.ensures
     (way_stopped c.args.first c.args.bodies.items c.loop-body.rest c.next.new.self
     c.in-Some.body (state_of c.loop-body.replay.kept) (state_of c.take_up.new.replay.kept) c.in-Err.why c.loop-body.at
@@ -43,7 +50,10 @@ returns-in-Err-clause-stopped c =
 
 pub loop-body-preserved : goal.loop-body-preserved
 loop-body-preserved c =
-    let taken = c.in-Ok.ensures.taken in
+    let taken = subst
+    (λ (b : List ℕ).
+    HasTaken b (state_of c.loop-body.replay.kept) (state_of c.take_up.new.replay.kept) (Ok tt))
+    c.as_slice.ensures c.in-Ok.ensures.taken in
     record {
       sound = c.take_up.ensures.sound;
       way = under_way_further c.args.first c.args.bodies.items c.loop-body.rest
