@@ -6,6 +6,7 @@ ghost use Rattle.mta_rows.specs.Texts.{pairs_text, said_text, shown_octet, shown
 use std::alloc::{AllocError, Global};
 use std::io;
 
+// Puts how a row has an octet.
 fn put_shown(text: &mut String, alloc: Global, octet: u8) -> Result<(), AllocError>
     ensures { OnOk result (string_bytes text.new ≡ string_bytes text.old ++ shown_octet octet) }
 {
@@ -65,6 +66,7 @@ pub fn pairs(alloc: Global, octets: &[u8]) -> Result<String, AllocError>
 }
 
 /// Prints that a row, which asks something about something, was answered as it says, or what it was answered.
+/// Nothing is said of what is printed, since the law of `Print` says nothing of it; an error is that of printing.
 pub fn tell(
     rt: &impl Print,
     asked: &str,
