@@ -74,7 +74,8 @@ abbrev pub HasAnswer : Ask → Shown HeldDisk (List ℕ) → Reply → Shown Hel
 HasAnswer q old x new = Answered memory_disk memory_clock q old x new × (IsShort (halt_after x) → ⊥)
 
 -- the session is told the answer, or it is none to what it waits for
-abbrev pub HasAsked : Ask → Shown HeldDisk (List ℕ) → State → Done → Shown HeldDisk (List ℕ) → State → Type 0
+abbrev pub HasAsked : Ask → Shown HeldDisk (List ℕ) → State → Done → Shown HeldDisk (List ℕ) → State
+    → Type 0
 HasAsked q old t (done.Told a) new u = (x : Reply) × HasAnswer q old x new × HasTold t (event.Reply x) a u
 HasAsked q old t (done.Rests (rest.Over is_closed)) new u =
     (x : Reply) × HasAnswer q old x new × (Answers t (event.Reply x) → ⊥) × (is_closed ≡ false)
@@ -132,7 +133,8 @@ pub record IsGivenUp (p : Party) (is_closed : Bool) : Type 0 where
   pub unheard : Answers p.session (event.Reply answer) → ⊥
   pub open_still : is_closed ≡ false
 
-abbrev pub HasDone : Party → Link → Done → Side → Shown HeldDisk (List ℕ) → Breaks → (old new : Feed) → Type 0
+abbrev pub HasDone : Party → Link → Done → Side → Shown HeldDisk (List ℕ) → Breaks → (old new : Feed)
+    → Type 0
 HasDone p l (done.Told a) x s b old new = HasActed p l a x s b old new
 HasDone p l (done.Rests rest.Waits) x s b old new = IsWaiting p l x s b old new
 HasDone p l (done.Rests (rest.Over is_closed)) x s b old new =

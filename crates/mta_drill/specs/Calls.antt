@@ -25,7 +25,8 @@ begun = after (step.Format 2 ∷ [])
 -- Such a disk is opened, unless memory is wanted: it is empty, or stands for a history in the format that is set.
 pub data IsOpenable (octets : List ℕ) : Type 0 where
   Is_empty : octets ≡ [] → IsOpenable octets
-  Has_stood : (steps : List Step) → StandsFor octets steps → (after steps).machine.format ≡ 2 → IsOpenable octets
+  Has_stood : (steps : List Step) → StandsFor octets steps → (after steps).machine.format ≡ 2
+      → IsOpenable octets
 
 -- memory was wanted, also for the disk
 abbrev pub IsWant : OpenWhy → Type 0

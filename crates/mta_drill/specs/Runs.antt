@@ -77,7 +77,8 @@ pub record HasRunOut (is_closed : Bool) (s t : Shown HeldDisk (List ℕ)) (b : B
   pub ran : RanTo w now
   pub caller_rests : CallerRests now
   pub listener_rests : ListenerRests now
-  pub closed : (e : SessionEnd) → now.calling.wants ≡ action.Finish e → (is_closed ≡ true) ↔ (e ≡ ends.Closed)
+  pub closed : (e : SessionEnd) → now.calling.wants ≡ action.Finish e
+      → (is_closed ≡ true) ↔ (e ≡ ends.Closed)
   pub first : (e : SessionEnd) → now.calling.wants ≡ action.Finish e
       → (now.calling.spool ≡ s.current) × Works s
   pub second : (e f : SessionEnd) → now.calling.wants ≡ action.Finish e → now.listening.wants ≡ action.Finish f

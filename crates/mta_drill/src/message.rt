@@ -4,7 +4,7 @@
 //! message from bell to watt (X.411, Message): both are names of C=GB;A=GOLD, as its identifier is. The content has
 //! 1,500 octets and up to 2,002 more.
 
-ghost use Rattle.std.specs.Prelude.{◌≡◌, ◌≤◌, ◌+◌, ◌<◌, ◌^◌, IfOk, OnOk, length};
+ghost use Rattle.std.specs.Prelude.{◌≡◌, ◌≤◌, IfOk, OnOk};
 ghost use Rattle.mta_ber.specs.Canon.{appended};
 ghost use Rattle.mta_drill_text.specs.Text.{content_length};
 ghost use Rattle.mta_drill_laws.specs.Messages.{content_of};

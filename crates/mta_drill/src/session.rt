@@ -158,8 +158,8 @@ pub(crate) fn session(
     peer: &Word,
     breaks: &mut Breaks,
 ) -> Result<bool, Memory>
-    ensures { (before count n : ℕ) → IsDrill before count → peer.now ≡ east → Works first.old → Works second.old
-        → Between before count our_reference n first.old.current second.old.current breaks.old
+    ensures { (before count n : ℕ) → IsDrill before count → peer.now ≡ east → Works first.old
+        → Works second.old → Between before count our_reference n first.old.current second.old.current breaks.old
         → IfOk result (λ b. HasMet first.old second.old breaks.old b first.new second.new breaks.new) }
 {
     let Some((calling, calls)) = caller(alloc, first, peer)? else {

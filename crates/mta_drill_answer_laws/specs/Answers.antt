@@ -59,6 +59,7 @@ QuestionsAreAsked =
 -- So are looks at a lane before a session.
 abbrev pub LooksAreAsked : Type 0
 LooksAreAsked =
-    (s : Shown HeldDisk (List ℕ)) → Works s → (t : State) (a : Action) (turns : List Turn) (u : State) (b : Action)
+    (s : Shown HeldDisk (List ℕ)) → Works s
+    → (t : State) (a : Action) (turns : List Turn) (u : State) (b : Action)
     → Looks memory_disk memory_clock s t a turns u b → (IsShort (noted_in None turns) → ⊥)
     → ((looks : List Look) × stage.Looks s.current t a looks u b) × (noted_in None turns ≡ None)

@@ -139,7 +139,8 @@ pub record Responding (x y : Setting) (w : World) (done : ℕ) (u : UnderWay) (m
   pub marks : BearsIn (again x) done u w.link.breaks
 
 -- it is bound, and what it holds of the message is this
-abbrev pub OnLane : Setting → World → (done : ℕ) → UnderWay → Action → Phase → RecvEnd → (up : List AnyUnit) → Type 0
+abbrev pub OnLane : Setting → World → (done : ℕ) → UnderWay → Action → Phase → RecvEnd
+    → (up : List AnyUnit) → Type 0
 OnLane x w done u wants at f up =
     Second (again x) w done (StandsIn (again x) done u) (BearsIn (again x) done u) 0 wants at f [] up
 
@@ -163,14 +164,14 @@ pub data AtReopen (x : Setting) (w : World) (done : ℕ) (u : UnderWay) : Type 0
       → AtReopen x w done u
   Accepts : (f : RecvEnd) → f.stage ≡ r.Free
       → OnLane x w done u (action.Put (accept_again x)) phase.PutsAccept f [] → AtReopen x w done u
-  Accepted : (f : RecvEnd) → f.stage ≡ r.Free → OnLane x w done u action.Read phase.Reads f (accept_again x ∷ [])
-      → AtReopen x w done u
+  Accepted : (f : RecvEnd) → f.stage ≡ r.Free
+      → OnLane x w done u action.Read phase.Reads f (accept_again x ∷ []) → AtReopen x w done u
 
 -- The lane is recovered. Then the next message is looked for, or the one that was under way is gone on with.
 pub data Recovering (x : Setting) (w : World) : Type 0 where
   Opens : (done : ℕ) (u : UnderWay) → Reopens x w done u 1 (action.Put (unit.Open (again_of x))) phase.PutsOpen
       → Responding x x w done u 1 action.Read (λ n. responder n phase.ReadsOpen None None) []
       → Recovering x w
-  Has_opened : (done : ℕ) (u : UnderWay) → Reopens x w done u 1 action.Read phase.ReadsAnswer → AtReopen x w done u
-      → Recovering x w
+  Has_opened : (done : ℕ) (u : UnderWay) → Reopens x w done u 1 action.Read phase.ReadsAnswer
+      → AtReopen x w done u → Recovering x w
   Begins : Stage (again x) w → Recovering x w

@@ -83,8 +83,9 @@ AreFew n done (Message c whole transfer) = n ≤ 2 * done + 1
 -- What both agents hold where so many sessions were, none of which closed the lane: all that came is delivered.
 pub data Between (before count : ℕ) (reference : Identifier) (n : ℕ) (first second : SpoolState) (b : Breaks)
     : Type 0 where
-  Before_all : (x : Setting) → IsOf before count reference 1 x → n ≡ 0 → x.since ≡ 0 → IsNew x → FirstFresh x first
-      → SecondNew x second → IsUntouched x 0 b → Between before count reference n first second b
+  Before_all : (x : Setting) → IsOf before count reference 1 x → n ≡ 0 → x.since ≡ 0 → IsNew x
+      → FirstFresh x first → SecondNew x second → IsUntouched x 0 b
+      → Between before count reference n first second b
   Behind : (x : Setting) (done : ℕ) (u : UnderWay) (got high : ℕ) (l : Last) (pieces : List (List ℕ))
       → IsOf before count reference n x → AreFew n done u → x.since ≡ done → x.broken ≡ b.made
       → IsIn (again x) done u → FirstHolds x first done (state_of done u) (transfer_in u)
@@ -118,7 +119,8 @@ pub record AreAllDone (before count : ℕ) (first second : SpoolState) (b : Brea
   pub broken : b.made + breaks_up_to before ≡ breaks_up_to (before + count)
 
 -- the lane was closed, and all is done; or it was not, and one session more was
-abbrev pub HasLed : (before count : ℕ) → Identifier → (n : ℕ) → World → (first second : SpoolState) → Type 0
+abbrev pub HasLed : (before count : ℕ) → Identifier → (n : ℕ) → World → (first second : SpoolState)
+    → Type 0
 HasLed before count reference n v first second =
     ((v.calling.wants ≡ action.Finish end.Closed) × AreAllDone before count first second v.link.breaks)
     ⊎ ((v.calling.wants ≡ action.Finish end.Closed → ⊥)
@@ -154,7 +156,8 @@ SessionsAreKnown = (before count : ℕ) (reference : Identifier) (n : ℕ) (firs
 -- the lane is opened or bound where there is memory for it
 abbrev pub NoneIsRefused : Type 0
 NoneIsRefused = (before count : ℕ) (reference : Identifier) (n : ℕ) (first second new : SpoolState) (b : Breaks)
-    → IsDrill before count → Between before count reference n first second b → IsRefused reference first new → ⊥
+    → IsDrill before count → Between before count reference n first second b → IsRefused reference first new
+    → ⊥
 
 -- and each look at it is answered by what the session waits for
 abbrev pub LooksAreHeard : Type 0
@@ -167,8 +170,8 @@ LooksAreHeard = (before count : ℕ) (reference : Identifier) (n : ℕ) (first s
 
 -- a session is under way where both have begun it
 abbrev pub SessionsStart : Type 0
-SessionsStart = (before count : ℕ) (reference : Identifier) (n : ℕ) (first second : SpoolState) (b : Breaks) (w : World)
-    → IsDrill before count → Between before count reference n first second b
+SessionsStart = (before count : ℕ) (reference : Identifier) (n : ℕ) (first second : SpoolState) (b : Breaks)
+    (w : World) → IsDrill before count → Between before count reference n first second b
     → HasStarted reference first second b w → (y : Setting) × IsSized y × InSession y w
 
 abbrev pub SessionsLeadOn : Type 0
@@ -188,6 +191,6 @@ SessionsAreFew = (before count : ℕ) (reference : Identifier) (n : ℕ) (first 
 abbrev pub DrillsBegin : Type 0
 DrillsBegin = (before count : ℕ) (reference : Identifier) (first second : SpoolState)
     → first.lanes.open_lanes ≡ [] → first.lanes.count ≡ 0 → HasAccepted before count 0 first.machine
-    → first.moment ≡ 0 → second.lanes.open_lanes ≡ [] → second.lanes.count ≡ 0 → HasGot before 0 0 second.machine
-    → second.moment ≡ 0
+    → first.moment ≡ 0 → second.lanes.open_lanes ≡ [] → second.lanes.count ≡ 0
+    → HasGot before 0 0 second.machine → second.moment ≡ 0
     → Between before count reference 0 first second (record { before = before; last = 0; made = 0 })

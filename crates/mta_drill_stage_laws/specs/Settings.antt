@@ -155,7 +155,8 @@ pub record FirstHolds (x : Setting) (s : SpoolState) (done : ℕ) (st : SendStat
   pub moment : s.moment ≡ 0
 
 -- so many messages came, and this is the receiving half of the lane, with its pieces
-pub record SecondHolds (x : Setting) (s : SpoolState) (got high : ℕ) (l : Last) (pieces : List (List ℕ)) : Type 0 where
+pub record SecondHolds (x : Setting) (s : SpoolState) (got high : ℕ) (l : Last)
+    (pieces : List (List ℕ)) : Type 0 where
   pub lanes : s.lanes.open_lanes ≡ second_lane x high l pieces ∷ []
   pub has : HasGot x.before got x.given s.machine
   pub moment : s.moment ≡ 0
@@ -194,7 +195,8 @@ pub record StandsNone (done got high : ℕ) (l : Last) (pieces : List (List ℕ)
   pub pieces_is : pieces ≡ []
 
 -- so many pieces of it stand
-pub record StandsPart (done : ℕ) (octets : List ℕ) (m got high : ℕ) (l : Last) (pieces : List (List ℕ)) : Type 0 where
+pub record StandsPart (done : ℕ) (octets : List ℕ) (m got high : ℕ) (l : Last)
+    (pieces : List (List ℕ)) : Type 0 where
   pub some : 1 ≤ m
   pub got_is : got ≡ done
   pub high_is : high ≡ done + 1
@@ -209,13 +211,15 @@ pub record StandsWhole (done got high : ℕ) (l : Last) (pieces : List (List ℕ
   pub pieces_is : pieces ≡ []
 
 -- its first n pieces stand, and not all of it
-pub data StandsFirst (done : ℕ) (octets : List ℕ) (n got high : ℕ) (l : Last) (pieces : List (List ℕ)) : Type 0 where
+pub data StandsFirst (done : ℕ) (octets : List ℕ) (n got high : ℕ) (l : Last)
+    (pieces : List (List ℕ)) : Type 0 where
   Of_none : n ≡ 0 → StandsNone done got high l pieces → StandsFirst done octets n got high l pieces
   Of_part : (m : ℕ) → n ≤ m → StandsPart done octets m got high l pieces
       → StandsFirst done octets n got high l pieces
 
 -- its first n pieces stand, whether it is complete or not
-abbrev pub Stands : (whole : Bool) → (done : ℕ) → List ℕ → (n got high : ℕ) → Last → List (List ℕ) → Type 0
+abbrev pub Stands : (whole : Bool) → (done : ℕ) → List ℕ → (n got high : ℕ) → Last → List (List ℕ)
+    → Type 0
 Stands true done octets n got high l pieces = StandsWhole done got high l pieces
 Stands false done octets n got high l pieces = StandsFirst done octets n got high l pieces
 
@@ -295,5 +299,6 @@ pub record WasBroken (x : Setting) (done : ℕ) (b : Breaks) : Type 0 where
 -- link was broken where its place was reached.
 pub data Marks (x : Setting) (done c : ℕ) (whole : Bool) (b : Breaks) : Type 0 where
   Not_yet : IsUntouched x done b → (1 ≤ c → break_of (x.before + (done + 1)) ≡ Some BehindConfirm → ⊥)
-      → (whole ≡ true → break_of (x.before + (done + 1)) ≡ Some BehindComplete → ⊥) → Marks x done c whole b
+      → (whole ≡ true → break_of (x.before + (done + 1)) ≡ Some BehindComplete → ⊥)
+      → Marks x done c whole b
   Once : WasBroken x done b → Marks x done c whole b

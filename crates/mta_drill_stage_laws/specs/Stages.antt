@@ -58,9 +58,8 @@ pub record Second (x : Setting) (w : World) (done : ℕ) (Has : ℕ → ℕ → 
   pub marks : Bears w.link.breaks
 
 -- so many pieces of the message behind those that are done, or all of it
-abbrev pub SecondOf : Setting → World → (done c : ℕ) (whole : Bool) (n read : ℕ) → Action → Phase → RecvEnd
-    → (came up : List AnyUnit)
-    → Type 0
+abbrev pub SecondOf : Setting → World → (done c : ℕ) (whole : Bool) (n read : ℕ) → Action → Phase
+    → RecvEnd → (came up : List AnyUnit) → Type 0
 SecondOf x w done c whole n read wants at f came up =
     Second x w done (Stands whole done (octets_behind x done) n) (Marks x done c whole) read wants at f came up
 
@@ -113,7 +112,8 @@ pub data AtEnd (x : Setting) (w : World) (done c n : ℕ) : Type 0 where
       → SecondOf x w done c true n (2 * n + 3) (action.Put (unit.EndAck (done + 1))) phase.Puts f [] (acks c j)
       → AtEnd x w done c n
   Ended : (j : ℕ) (f : RecvEnd) → c + j ≡ n → f.stage ≡ r.Free
-      → SecondOf x w done c true n (2 * n + 3) action.Read phase.Reads f [] (acks c j ++ unit.EndAck (done + 1) ∷ [])
+      → SecondOf x w done c true n (2 * n + 3) action.Read phase.Reads f []
+      (acks c j ++ unit.EndAck (done + 1) ∷ [])
       → AtEnd x w done c n
 
 -- ---- the first agent
@@ -141,7 +141,8 @@ pub record FirstCalls (x : Setting) (w : World) (done c : ℕ) (ending : Bool) (
 -- ---- a link that is broken
 
 -- what stands of the message at the second agent where the link was broken
-abbrev pub StandsHalted : (ending : Bool) → (done : ℕ) → List ℕ → (c got high : ℕ) → Last → List (List ℕ) → Type 0
+abbrev pub StandsHalted : (ending : Bool) → (done : ℕ) → List ℕ → (c got high : ℕ) → Last
+    → List (List ℕ) → Type 0
 StandsHalted true done octets c got high l pieces = StandsWhole done got high l pieces
 StandsHalted false done octets c got high l pieces =
     (m : ℕ) × (c ≤ m) × (1 ≤ c) × StandsPart done octets m got high l pieces
@@ -253,8 +254,9 @@ pub data Stage (x : Setting) (w : World) : Type 0 where
   -- n pieces are put, each with its Sync, of which c are confirmed
   Next : (done c : ℕ) (whole : Bool) (n : ℕ) → c ≤ n → n ≤ c + 2 → HasMore (octets_behind x done) n
       → First x w done c whole (s.Next (done + 1) n) → AtNext x w done c whole n → Stage x w
-  Sync_due : (done c : ℕ) (whole : Bool) (n : ℕ) → c ≤ n → n < c + 2 → HasMore (octets_behind x done) (n + 1)
-      → First x w done c whole (s.Sync_next (done + 1) (n + 1)) → AtHeld x w done c whole n → Stage x w
+  Sync_due : (done c : ℕ) (whole : Bool) (n : ℕ) → c ≤ n → n < c + 2
+      → HasMore (octets_behind x done) (n + 1) → First x w done c whole (s.Sync_next (done + 1) (n + 1))
+      → AtHeld x w done c whole n → Stage x w
   -- the last piece is put
   At_last : (done c : ℕ) (whole ending : Bool) (n : ℕ) → (whole ≡ true → ending ≡ true) → c ≤ n
       → HasMore (octets_behind x done) n → is_last 1024 (octets_behind x done) (n + 1) ≡ true
@@ -263,8 +265,8 @@ pub data Stage (x : Setting) (w : World) : Type 0 where
       → is_last 1024 (octets_behind x done) (n + 1) ≡ true
       → First x w done c true (s.End_put (done + 1) (n + 1)) → AtEnd x w done c n → Stage x w
   -- an acknowledgement was read
-  Confirms_next : (done c : ℕ) (whole : Bool) (n j : ℕ) (f : RecvEnd) → c < n → n ≤ c + 2 → c + (j + 1) ≡ n
-      → HasMore (octets_behind x done) n
+  Confirms_next : (done c : ℕ) (whole : Bool) (n j : ℕ) (f : RecvEnd) → c < n → n ≤ c + 2
+      → c + (j + 1) ≡ n → HasMore (octets_behind x done) n
       → FirstCalls x w done c whole (s.Next (done + 1) n) (c + 1)
       (action.Ask (ask.Confirm 1 x.generation (done + 1) (c + 1))) (phase.AsksStep (own.Confirm (c + 1)))
       → IsBehind f whole (done + 1) n (octets_behind x done)
@@ -287,9 +289,8 @@ pub data Stage (x : Setting) (w : World) : Type 0 where
       → Stage x w
   -- the link is broken
   Cut : (done c : ℕ) (ending : Bool) → Halted x w.calling.spool w.listening.spool done c ending
-      → w.link.is_broken ≡ true → WasBroken x done w.link.breaks → x.broken < w.link.breaks.made → IsCutOff w.calling
-      → IsCutOff w.listening
-      → Stage x w
+      → w.link.is_broken ≡ true → WasBroken x done w.link.breaks → x.broken < w.link.breaks.made
+      → IsCutOff w.calling → IsCutOff w.listening → Stage x w
   -- all is sent, and the lane is closed
   Closes : (left : ℕ) (f : RecvEnd) → IsQuiet x w x.count left f
       → Calls x w.calling x.count left (state.Idle x.count) [] s.Quiet None (action.Put unit.Close) phase.PutsClose
@@ -306,14 +307,14 @@ pub data Stage (x : Setting) (w : World) : Type 0 where
       → HasClosed x w (action.Finish end.Closed) (phase.Ended end.Closed) []
       → Stage x w
   -- the lane was recovered, with a message under way
-  Reopened : (done c : ℕ) (whole : Bool) (f : RecvEnd) → (c ≡ 0 → whole ≡ true) → HasMore (octets_behind x done) c
-      → (first : First x w done c whole s.Opened) → 16 * x.count + 17 ≤ first.left + 16 * done + c
-      → f.stage ≡ r.Free → SecondOf x w done c whole c 0 action.Read phase.Reads f [] []
-      → WasBroken x done w.link.breaks
+  Reopened : (done c : ℕ) (whole : Bool) (f : RecvEnd) → (c ≡ 0 → whole ≡ true)
+      → HasMore (octets_behind x done) c → (first : First x w done c whole s.Opened)
+      → 16 * x.count + 17 ≤ first.left + 16 * done + c → f.stage ≡ r.Free
+      → SecondOf x w done c whole c 0 action.Read phase.Reads f [] [] → WasBroken x done w.link.breaks
       → Stage x w
   Resuming : (done c : ℕ) (whole : Bool) → 1 ≤ c → HasMore (octets_behind x done) c
-      → (first : First x w done c whole (s.Resume_put (done + 1) c)) → 16 * x.count + 17 ≤ first.left + 16 * done + c
-      → AtResume x w done c whole → Stage x w
+      → (first : First x w done c whole (s.Resume_put (done + 1) c))
+      → 16 * x.count + 17 ≤ first.left + 16 * done + c → AtResume x w done c whole → Stage x w
   Discarding : (done : ℕ) → First x w done 0 true (s.Discard_put (done + 1)) → WasBroken x done w.link.breaks
       → AtDiscard x w done → Stage x w
   Sends_last : (done : ℕ) (f : RecvEnd) (left : ℕ) (transfer : Transfer) → done < x.count

@@ -85,7 +85,8 @@ pub record Bound (s : SpoolState) (n : ℕ) (x : Result ℕ StepFault) (new : Sp
 
 -- The lane's activity is completed with this piece. It is refused only where the lane does not take the piece, or where
 -- the octets are none of an APDU, or where no two numbers are left for items.
-abbrev pub Completed : {T E : Type 0} → SpoolState → (n g k m : ℕ) → List ℕ → Result T E → SpoolState → Lane → Type 0
+abbrev pub Completed : {T E : Type 0} → SpoolState → (n g k m : ℕ) → List ℕ → Result T E → SpoolState
+    → Lane → Type 0
 Completed s n g k m piece (Ok x) new lane = new ≡ after_step s (step.Complete n g k m piece s.moment)
 Completed s n g k m piece (Err f) new lane =
     g ≡ lane.generation → TakesPiece lane (recv.Complete k m) m piece

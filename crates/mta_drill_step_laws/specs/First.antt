@@ -39,8 +39,8 @@ FirstIsQuiet = (before count done : ℕ) (s : State) → HasAccepted before coun
 -- the next message is the next batch for the second agent
 abbrev pub NextIsRelayed : Type 0
 NextIsRelayed =
-    (before count done : ℕ) (s : State) (i : ℕ) (rs : List ℕ) → HasAccepted before count done s.machine → AllAreFree s
-    → IsBatch s east 0 i rs → (done < count) × (i ≡ done + 1) × (rs ≡ 1 ∷ [])
+    (before count done : ℕ) (s : State) (i : ℕ) (rs : List ℕ) → HasAccepted before count done s.machine
+    → AllAreFree s → IsBatch s east 0 i rs → (done < count) × (i ≡ done + 1) × (rs ≡ 1 ∷ [])
 
 -- where there is none, all are sent
 abbrev pub NoneIsLeft : Type 0

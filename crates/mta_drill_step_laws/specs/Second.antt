@@ -1,6 +1,5 @@
 -- What the second agent of a drill holds: copies of messages behind those of earlier rounds, of which the first ones
--- are
--- delivered.
+-- are delivered.
 use Rattle.std.specs.Prelude.{◌≡◌, ◌<◌, ◌≤◌, ℕ, ◌+◌, [], ◌∷◌, length, Some}
 use Rattle.mta_records.specs.declared.state.MailboxLine.{MailboxLine}
 use Rattle.mta_records.specs.declared.state.Origin.TheVariants.{Lane}

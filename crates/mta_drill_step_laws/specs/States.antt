@@ -72,15 +72,15 @@ pub record Transfers (done : ℕ) (lane : Lane) : Type 0 where
 
 abbrev pub SentIsOneMore : Type 0
 SentIsOneMore =
-    (before count done n g k : ℕ) (s : State) (lane : Lane) → HasAccepted before count done s.machine → done < count
-    → lane_at n s.lanes.open_lanes ≡ Some lane → Transfers done lane
+    (before count done n g k : ℕ) (s : State) (lane : Lane) → HasAccepted before count done s.machine
+    → done < count → lane_at n s.lanes.open_lanes ≡ Some lane → Transfers done lane
     → HasAccepted before count (done + 1) (after_step s (step.Sent n g k 0)).machine
 
 -- the pieces that stand are the copy of the next message with this one
 abbrev pub CompleteIsOneMore : Type 0
 CompleteIsOneMore =
-    (before count done n g k m : ℕ) (piece : List ℕ) (s : State) (lane : Lane) → HasGot before count done s.machine
-    → lane_at n s.lanes.open_lanes ≡ Some lane
+    (before count done n g k m : ℕ) (piece : List ℕ) (s : State) (lane : Lane)
+    → HasGot before count done s.machine → lane_at n s.lanes.open_lanes ≡ Some lane
     → concat (with_piece lane.pieces m piece) ≡ copy_of (before + (count + 1))
     → HasGot before (count + 1) done (after_step s (step.Complete n g k m piece 0)).machine
 
@@ -92,8 +92,8 @@ DeliveredIsOneMore = (before count done : ℕ) (s : State) → HasGot before cou
 
 -- with one lane, whose sending half is idle, all recipients are free, and with none
 abbrev pub IdleLanesLeaveAllFree : Type 0
-IdleLanesLeaveAllFree = (s : State) (lane : Lane) → s.lanes.open_lanes ≡ lane ∷ [] → is_idle lane.sending ≡ true
-    → AllAreFree s
+IdleLanesLeaveAllFree = (s : State) (lane : Lane) → s.lanes.open_lanes ≡ lane ∷ []
+    → is_idle lane.sending ≡ true → AllAreFree s
 
 abbrev pub NoLanesLeaveAllFree : Type 0
 NoLanesLeaveAllFree = (s : State) → s.lanes.open_lanes ≡ [] → AllAreFree s

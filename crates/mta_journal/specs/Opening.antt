@@ -77,8 +77,7 @@ abbrev pub head : List ℕ
 head = 1 ∷ 0 ∷ 0 ∷ 0 ∷ 10 ∷ 255 ∷ []
 
 -- what is written behind gate 8 where two areas are begun: the length ten, FF, the selector 0, eight octets of zero,
--- and
--- the first gate of the first area, which is closed
+-- and the first gate of the first area, which is closed
 abbrev pub areas_frame : List ℕ
 areas_frame = 0 ∷ 0 ∷ 0 ∷ 10 ∷ 255 ∷ 0 ∷ 0 ∷ 0 ∷ 0 ∷ 0 ∷ 0 ∷ 0 ∷ 0 ∷ 0 ∷ 0 ∷ []
 

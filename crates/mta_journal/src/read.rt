@@ -155,8 +155,8 @@ fn body_of<D: Disk>(
     read(alloc, disk, gate + 5, count, gate)
 }
 
-// Reads on from the gate at `gate`, behind which so many octets are left, where its first five are not read yet, or all
-// where fewer are left.
+// Reads on from the gate at `gate`, from which on so many octets are left, where its first five are not read yet, or
+// all where fewer are left.
 fn read_ahead<D: Disk>(
     alloc: Global,
     disk: &mut D,

@@ -1,5 +1,5 @@
 //! The recipients of an item: where the route of each leads, and whether he waits. No memory is taken for an item of
-//! one, as most are.
+//! one, as most are, whose place has a number of 32 bits.
 
 ghost use Rattle.std.specs.Prelude.{◌≡◌, ◌≢◌, ◌++◌, ◌∷◌, [], false, length, IfOk, IfSome, OnOk, OnErr};
 ghost use Rattle.std.specs.Prelude.{slice_get};

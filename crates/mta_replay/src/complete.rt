@@ -57,7 +57,7 @@ fn taking_lane<'a>(
 ///
 /// # Errors
 /// `Bad` with the first fault exactly where they spell no APDU; `Memory`.
-pub fn joined_item(
+fn joined_item(
     alloc: Global,
     opened: &Lane,
     number: u32,
@@ -88,7 +88,7 @@ pub fn complete_change(lane: u32, activity: u32, item: Item, moment: u64) -> Cha
 /// None exactly where it is not possible. Pieces are numbered from 1, and `moment` is in seconds since 1950-01-01
 /// 00:00:00 UTC.
 #[tactic(auto, using(crate::proofs::Completing::complete_laws))]
-pub fn prepare_complete(
+pub(crate) fn prepare_complete(
     alloc: Global,
     kept: &Kept,
     lane: u32,

@@ -26,7 +26,7 @@ mod start;
 mod touched;
 
 pub use accept::{Arrival, prepare_accept, prepare_arrival, prepare_tables};
-pub use complete::{complete_change, joined_item, prepare_complete};
+pub use complete::complete_change;
 pub use deliver::{prepare_affirm, prepare_deliver, prepare_expand};
 pub use law::tables_come_first;
 pub use mta_snapshots::snapshot_of;

@@ -57,7 +57,8 @@ phase_behind _ = phase.Puts
 
 -- Going on: one thing that the rules of the two ends allow -----------------------------------
 
--- A Sync came last, and the piece before it is not to be made durable any more. Behind End the activity is completed.
+-- Where a Sync came last its piece is durable. Behind an End nothing is settled before the activity is completed, and
+-- at each other stage all is.
 abbrev pub IsSettled : RecvStage → Last → Type 0
 IsSettled (r.Synced k n piece) last = is_done last k ≡ true
 IsSettled (r.Ended k n piece) last = ⊥

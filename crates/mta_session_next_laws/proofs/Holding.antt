@@ -8,7 +8,6 @@ use Rattle.mta_lane_send.specs.declared.state.SendState.{SendState}
 use Rattle.mta_lane_send.specs.declared.state.SendState.TheVariants as state
 use Rattle.mta_lane_send.specs.Half.{confirmed_of, goes_on, is_ending, is_sending, last_of}
 use Rattle.mta_transfer_rules.specs.Pieces.{piece_of}
-use Rattle.mta_transfer_rules.specs.Units.{LaneUnit}
 use Rattle.mta_transfer_rules.specs.Units as u
 use Rattle.mta_transfer_rules.specs.Sending as s
 use Rattle.mta_transfer_rules.specs.Sending.{SendStage, is_dropping}

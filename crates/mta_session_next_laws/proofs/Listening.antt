@@ -7,10 +7,9 @@ use Rattle.mta_units.specs.declared.unit.Unit.TheVariants as unit
 use Rattle.mta_lane_recv.specs.declared.state.Last.{Last}
 use Rattle.mta_lane_recv.specs.declared.state.Last.TheVariants as last
 use Rattle.mta_lane_recv.specs.Half.{IsOfHigh, is_done, is_partial_of, stands, takes_piece}
-use Rattle.mta_transfer_rules.specs.Units.{LaneUnit}
 use Rattle.mta_transfer_rules.specs.Units as u
 use Rattle.mta_transfer_rules.specs.Receiving as r
-use Rattle.mta_transfer_rules.specs.Receiving.{RecvEnd, RecvStage, StageOwesNothing}
+use Rattle.mta_transfer_rules.specs.Receiving.{RecvStage, StageOwesNothing}
 use Rattle.mta_session.specs.declared.ask.Ask.{Ask}
 use Rattle.mta_session.specs.declared.ask.Ask.TheVariants as ask
 use Rattle.mta_session.specs.declared.event.Action.{Action}

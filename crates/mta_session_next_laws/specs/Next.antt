@@ -76,7 +76,8 @@ next_of_sender (s.Discard_put k) t = reads t
 abbrev pub HoldersGoOn : Type 0
 HoldersGoOn =
     (t : State) (a : Action) (new : State) → t.ours ≡ true → is_dropping t.send.state ≡ false
-    → is_free t.recv.stage ≡ true → GoesOn t a new → ◌≡◌ {A = Action × State} (a, new) (next_of_sender t.send.stage t)
+    → is_free t.recv.stage ≡ true → GoesOn t a new
+    → ◌≡◌ {A = Action × State} (a, new) (next_of_sender t.send.stage t)
 
 -- ---- without it
 
@@ -169,8 +170,8 @@ HoldersAsk =
 -- an acknowledgement of a Sync that was put and is not confirmed
 abbrev pub SyncAcksAreCalledFor : Type 0
 SyncAcksAreCalledFor =
-    (e : SendEnd) (n : ℕ) → goes_on e.state (last_of e.state) ≡ true → confirmed_of e.state < n → n ≤ s.synced e.stage
-    → called e (unit.SyncAck n) ≡ Some (own.Confirm n)
+    (e : SendEnd) (n : ℕ) → goes_on e.state (last_of e.state) ≡ true → confirmed_of e.state < n
+    → n ≤ s.synced e.stage → called e (unit.SyncAck n) ≡ Some (own.Confirm n)
 
 abbrev pub EndAcksAreCalledFor : Type 0
 EndAcksAreCalledFor =
@@ -180,7 +181,8 @@ EndAcksAreCalledFor =
 -- the transfer goes on behind the answer to Resume
 abbrev pub ResumeAcksAreHeard : Type 0
 ResumeAcksAreHeard =
-    (t : State) (k n : ℕ) → t.phase ≡ phase.Reads → t.ours ≡ true → 1 < t.left → t.send.stage ≡ s.Resume_put k n
+    (t : State) (k n : ℕ) → t.phase ≡ phase.Reads → t.ours ≡ true → 1 < t.left
+    → t.send.stage ≡ s.Resume_put k n
     → wanted (counted t (event.Unit (unit.ResumeAck k n))) (event.Unit (unit.ResumeAck k n))
     ≡ Goes_on (record t { left = t.left - 1; send = record t.send { stage = s.Next k n } })
 
