@@ -31,7 +31,7 @@ use Rattle.mta_envelope.specs.declared.parts.EnvelopePart.TheVariants.{TraceList
 use Rattle.mta_envelope.specs.declared.parts.EnvelopePart.TheVariants.{Bilateral, RecipientList, ExtensionSet}
 use Rattle.mta_envelope.specs.declared.parts.EnvelopeParts.{EnvelopeParts}
 use Rattle.mta_envelope.specs.Components.{is_envelope_tag, no_envelope, MakesEnvelopePart, MakesEnvelope}
-use Rattle.mta_envelope.specs.Envelopes.{told_history, told_or_none, history_or_none, envelope_in, SpellsEnvelope}
+use Rattle.mta_envelope.specs.Envelopes.{told_history, told_or_none, history_or_none, SpellsEnvelope}
 use Rattle.mta_envelope.specs.Laws.{told_of, IsWholeEnvelope, KeepsEnvelope, ReadEnvelopesAreKept}
 use Rattle.mta_envelope.specs.Laws.{ReadMessagesAreReadAgain, ReadProbesAreReadAgain, NoMessageBeginsAnother}
 use Rattle.mta_envelope.specs.Laws.{NoProbeBeginsAnother}
@@ -51,166 +51,78 @@ record Holds (depth : ℕ) (s : EnvelopeParts) : Type 0 where
   trace : IfSome s.trace (AreKeptTraces (depth + 1))
   extensions : IfSome s.extensions (AreToldAt depth)
 
+-- what the parts of an envelope keep, one behind another
+holds : {depth : ℕ} {s : EnvelopeParts} → (IfSome s.originator (λ n. KeepsName depth n × IsName n))
+    → IfSome s.id IsWholeId → IfSome s.eits (IsRawAt depth 1 5) → IfSome s.bilateral (IsRawAt depth 2 1)
+    → IfSome s.recipients (Each (IsKeptRecipient (depth + 1))) → IfSome s.trace (AreKeptTraces (depth + 1))
+    → IfSome s.extensions (AreToldAt depth) → Holds depth s
+holds originator id eits bilateral recipients trace extensions =
+    record {
+      originator = originator;
+      id = id;
+      eits = eits;
+      bilateral = bilateral;
+      recipients = recipients;
+      trace = trace;
+      extensions = extensions;
+    }
+
 part_kept : (b : Bool) (k : EnvelopePart) (depth : ℕ) (s t : EnvelopeParts) (tag : Tag) (content octets : List ℕ)
     → depth + 6 ≤ 16 → is_envelope_tag b k tag ≡ true → Stands depth tag content octets
     → MakesEnvelopePart k depth s tag content octets t → Holds depth s → Holds depth t
 part_kept b Originator depth s t tag content octets d is stands m h =
     subst (Holds depth) (sym m.1.after_is)
-    (record {
-      originator = (
-        name_kept depth tag.constructed content m.1.value m.1.value_spelled,
-        name_is depth tag.constructed content m.1.value m.1.value_spelled,
-      );
-      id = h.id;
-      eits = h.eits;
-      bilateral =
-          h.bilateral;
-      recipients = h.recipients;
-      trace = h.trace;
-      extensions = h.extensions;
-    })
+    (holds (
+      name_kept depth tag.constructed content m.1.value m.1.value_spelled,
+      name_is depth tag.constructed content m.1.value m.1.value_spelled,
+    )
+    h.id h.eits h.bilateral h.recipients h.trace h.extensions)
 part_kept b Identifier depth s t tag content octets d is stands m h =
     subst (Holds depth) (sym m.1.after_is)
-    (record {
-      originator = h.originator;
-      id = identifier_whole depth tag content m.1.value m.1.value_spelled;
-      eits =
-          h.eits;
-      bilateral = h.bilateral;
-      recipients = h.recipients;
-      trace = h.trace;
-      extensions = h.extensions;
-    })
+    (holds h.originator (identifier_whole depth tag content m.1.value m.1.value_spelled) h.eits h.bilateral
+    h.recipients h.trace h.extensions)
 part_kept b InformationTypes depth s t tag content octets d is stands m h =
     subst (Holds depth) (sym m.1.after_is)
-    (record {
-      originator = h.originator;
-      id = h.id;
-      eits =
-          subst (IsRawAt depth 1 5) (sym m.1.value_spelled)
-          (record { tag = tag; content = content; is_tag_of = is; stands = stands });
-      bilateral = h.bilateral;
-      recipients =
-          h.recipients;
-      trace = h.trace;
-      extensions = h.extensions;
-    })
+    (holds h.originator h.id
+    (subst (IsRawAt depth 1 5) (sym m.1.value_spelled)
+    (record { tag = tag; content = content; is_tag_of = is; stands = stands }))
+    h.bilateral h.recipients h.trace h.extensions)
 part_kept b ContentType depth s t tag content octets d is stands m h =
     subst (Holds depth) (sym m.1.after_is)
-    (record {
-      originator = h.originator;
-      id = h.id;
-      eits = h.eits;
-      bilateral = h.bilateral;
-      recipients = h.recipients;
-      trace = h.trace;
-      extensions = h.extensions;
-    })
+    (holds h.originator h.id h.eits h.bilateral h.recipients h.trace h.extensions)
 part_kept b MessagePriority depth s t tag content octets d is stands m h =
     subst (Holds depth) (sym m.1.after_is)
-    (record {
-      originator = h.originator;
-      id = h.id;
-      eits = h.eits;
-      bilateral = h.bilateral;
-      recipients = h.recipients;
-      trace = h.trace;
-      extensions = h.extensions;
-    })
+    (holds h.originator h.id h.eits h.bilateral h.recipients h.trace h.extensions)
 part_kept b Indicators depth s t tag content octets d is stands m h =
     subst (Holds depth) (sym m.1.after_is)
-    (record {
-      originator = h.originator;
-      id = h.id;
-      eits = h.eits;
-      bilateral = h.bilateral;
-      recipients = h.recipients;
-      trace = h.trace;
-      extensions = h.extensions;
-    })
+    (holds h.originator h.id h.eits h.bilateral h.recipients h.trace h.extensions)
 part_kept b TraceList depth s t tag content octets d is stands m h =
     subst (Holds depth) (sym m.1.after_is)
-    (record {
-      originator = h.originator;
-      id = h.id;
-      eits = h.eits;
-      bilateral = h.bilateral;
-      recipients = h.recipients;
-      trace = trace_list_kept depth tag.constructed content m.1.value m.1.value_spelled;
-      extensions = h.extensions;
-    })
+    (holds h.originator h.id h.eits h.bilateral h.recipients
+    (trace_list_kept depth tag.constructed content m.1.value m.1.value_spelled) h.extensions)
 part_kept b ContentIdentifier depth s t tag content octets d is stands m h =
     subst (Holds depth) (sym m.1.after_is)
-    (record {
-      originator = h.originator;
-      id = h.id;
-      eits = h.eits;
-      bilateral = h.bilateral;
-      recipients = h.recipients;
-      trace = h.trace;
-      extensions = h.extensions;
-    })
+    (holds h.originator h.id h.eits h.bilateral h.recipients h.trace h.extensions)
 part_kept b Deferral depth s t tag content octets d is stands m h =
     subst (Holds depth) (sym m.1.after_is)
-    (record {
-      originator = h.originator;
-      id = h.id;
-      eits = h.eits;
-      bilateral = h.bilateral;
-      recipients = h.recipients;
-      trace = h.trace;
-      extensions = h.extensions;
-    })
+    (holds h.originator h.id h.eits h.bilateral h.recipients h.trace h.extensions)
 part_kept b Length depth s t tag content octets d is stands m h =
     subst (Holds depth) (sym m.1.after_is)
-    (record {
-      originator = h.originator;
-      id = h.id;
-      eits = h.eits;
-      bilateral = h.bilateral;
-      recipients = h.recipients;
-      trace = h.trace;
-      extensions = h.extensions;
-    })
+    (holds h.originator h.id h.eits h.bilateral h.recipients h.trace h.extensions)
 part_kept b Bilateral depth s t tag content octets d is stands m h =
     subst (Holds depth) (sym m.1.after_is)
-    (record {
-      originator = h.originator;
-      id = h.id;
-      eits = h.eits;
-      bilateral =
-          subst (IsRawAt depth 2 1) (sym m.1.value_spelled)
-          (record { tag = tag; content = content; is_tag_of = is; stands = stands });
-      recipients = h.recipients;
-      trace =
-          h.trace;
-      extensions = h.extensions;
-    })
+    (holds h.originator h.id h.eits
+    (subst (IsRawAt depth 2 1) (sym m.1.value_spelled)
+    (record { tag = tag; content = content; is_tag_of = is; stands = stands }))
+    h.recipients h.trace h.extensions)
 part_kept b RecipientList depth s t tag content octets d is stands m h =
     subst (Holds depth) (sym m.1.after_is)
-    (record {
-      originator = h.originator;
-      id = h.id;
-      eits = h.eits;
-      bilateral = h.bilateral;
-      recipients =
-          recipients_kept depth tag.constructed content m.1.value m.1.value_spelled d;
-      trace = h.trace;
-      extensions =
-          h.extensions;
-    })
+    (holds h.originator h.id h.eits h.bilateral
+    (recipients_kept depth tag.constructed content m.1.value m.1.value_spelled d) h.trace h.extensions)
 part_kept b ExtensionSet depth s t tag content octets d is stands m h =
     subst (Holds depth) (sym m.1.after_is)
-    (record {
-      originator = h.originator;
-      id = h.id;
-      eits = h.eits;
-      bilateral = h.bilateral;
-      recipients = h.recipients;
-      trace = h.trace;
-      extensions = extensions_kept depth tag.constructed content m.1.value m.1.value_spelled
-          (omega arith);
-    })
+    (holds h.originator h.id h.eits h.bilateral h.recipients h.trace
+    (extensions_kept depth tag.constructed content m.1.value m.1.value_spelled (omega arith)))
 
 kept : (b : Bool) (depth : ℕ) → depth + 6 ≤ 16 → KeepsAt MakesEnvelope (Holds depth) depth
 kept b depth d s t tag content octets stands m h =

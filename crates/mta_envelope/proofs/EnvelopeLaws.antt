@@ -151,266 +151,96 @@ record Holds (b : Bool) (s : EnvelopeParts) : Type 0 where
   message : b ≡ false → s.length ≡ None
   probing : b ≡ true → (s.priority ≡ None) × (s.deferral ≡ None)
 
+-- the components are such where each of them is
+holds : {b : Bool} {s : EnvelopeParts} → s.probe ≡ b → IfSome s.eits (IsRaw 1 5)
+    → IfSome s.content_kind IsContentKind → IfSome s.content_id IsContentId → IfSome s.indicators IsIndicators
+    → IfSome s.deferral (λ m. m ≤ last_moment) → IfSome s.length (λ n. n ≤ longest)
+    → IfSome s.bilateral (IsRaw 2 1) → (IfSome s.recipients (λ r. (1 ≤ length r) × (length r ≤ 32767)))
+    → IfSome s.trace (λ t. length t ≤ 512) → IfSome s.extensions AreTold
+    → (b ≡ false → s.length ≡ None) → (b ≡ true → (s.priority ≡ None) × (s.deferral ≡ None))
+    → Holds b s
+holds same eits content_kind content_id indicators deferral length_fits bilateral recipients trace extensions
+    message probing =
+    record {
+      same = same;
+      eits = eits;
+      content_kind = content_kind;
+      content_id = content_id;
+      indicators = indicators;
+      deferral = deferral;
+      length_fits = length_fits;
+      bilateral = bilateral;
+      recipients = recipients;
+      trace = trace;
+      extensions = extensions;
+      message = message;
+      probing = probing;
+    }
+
 keeps_part : (b : Bool) (k : EnvelopePart) (depth : ℕ) (s t : EnvelopeParts) (tag : Tag) (content octets : List ℕ)
     → is_envelope_tag s.probe k tag ≡ true → Stands depth tag content octets
     → MakesEnvelopePart k depth s tag content octets t → Holds b s → Holds b t
 keeps_part b Originator depth s t tag content octets is stands m h =
     subst (Holds b) (sym m.1.after_is)
-    (record {
-      same = h.same;
-      eits = h.eits;
-      content_kind = h.content_kind;
-      content_id = h.content_id;
-      indicators =
-          h.indicators;
-      deferral = h.deferral;
-      length_fits = h.length_fits;
-      bilateral = h.bilateral;
-      recipients =
-          h.recipients;
-      trace = h.trace;
-      extensions = h.extensions;
-      message = h.message;
-      probing = h.probing;
-    })
+    (holds h.same h.eits h.content_kind h.content_id h.indicators h.deferral h.length_fits h.bilateral h.recipients
+    h.trace h.extensions h.message h.probing)
 keeps_part b Identifier depth s t tag content octets is stands m h =
     subst (Holds b) (sym m.1.after_is)
-    (record {
-      same = h.same;
-      eits = h.eits;
-      content_kind = h.content_kind;
-      content_id = h.content_id;
-      indicators =
-          h.indicators;
-      deferral = h.deferral;
-      length_fits = h.length_fits;
-      bilateral = h.bilateral;
-      recipients =
-          h.recipients;
-      trace = h.trace;
-      extensions = h.extensions;
-      message = h.message;
-      probing = h.probing;
-    })
+    (holds h.same h.eits h.content_kind h.content_id h.indicators h.deferral h.length_fits h.bilateral h.recipients
+    h.trace h.extensions h.message h.probing)
 keeps_part b InformationTypes depth s t tag content octets is stands m h =
     subst (Holds b) (sym m.1.after_is)
-    (record {
-      same = h.same;
-      eits =
-          subst (IsRaw 1 5) (sym m.1.value_spelled)
-          (record { depth = depth; tag = tag; content = content; is_tag_of = is; stands = stands });
-      content_kind =
-          h.content_kind;
-      content_id = h.content_id;
-      indicators = h.indicators;
-      deferral = h.deferral;
-      length_fits =
-          h.length_fits;
-      bilateral = h.bilateral;
-      recipients = h.recipients;
-      trace = h.trace;
-      extensions = h.extensions;
-      message = h.message;
-      probing = h.probing;
-    })
+    (holds h.same
+    (subst (IsRaw 1 5) (sym m.1.value_spelled)
+    (record { depth = depth; tag = tag; content = content; is_tag_of = is; stands = stands }))
+    h.content_kind h.content_id h.indicators h.deferral h.length_fits h.bilateral h.recipients h.trace h.extensions
+    h.message h.probing)
 keeps_part b ContentType depth s t tag content octets is stands m h =
     subst (Holds b) (sym m.1.after_is)
-    (record {
-      same = h.same;
-      eits = h.eits;
-      content_kind =
-          kind_is depth tag content octets m.1.value m.1.value_spelled;
-      content_id = h.content_id;
-      indicators =
-          h.indicators;
-      deferral = h.deferral;
-      length_fits = h.length_fits;
-      bilateral = h.bilateral;
-      recipients =
-          h.recipients;
-      trace = h.trace;
-      extensions = h.extensions;
-      message = h.message;
-      probing = h.probing;
-    })
+    (holds h.same h.eits (kind_is depth tag content octets m.1.value m.1.value_spelled) h.content_id h.indicators
+    h.deferral h.length_fits h.bilateral h.recipients h.trace h.extensions h.message h.probing)
 keeps_part b MessagePriority depth s t tag content octets is stands m h =
     subst (Holds b) (sym m.1.after_is)
-    (record {
-      same = h.same;
-      eits = h.eits;
-      content_kind = h.content_kind;
-      content_id = h.content_id;
-      indicators =
-          h.indicators;
-      deferral = h.deferral;
-      length_fits = h.length_fits;
-      bilateral = h.bilateral;
-      recipients =
-          h.recipients;
-      trace = h.trace;
-      extensions = h.extensions;
-      message = h.message;
-      probing =
-          λ e. absurd (let k = no_probe b s.probe (is_primitive_tag 1 7 tag) h.same is e in k);
-    })
+    (holds h.same h.eits h.content_kind h.content_id h.indicators h.deferral h.length_fits h.bilateral h.recipients
+    h.trace h.extensions h.message
+    (λ e. absurd (let k = no_probe b s.probe (is_primitive_tag 1 7 tag) h.same is e in k)))
 keeps_part b Indicators depth s t tag content octets is stands m h =
     subst (Holds b) (sym m.1.after_is)
-    (record {
-      same = h.same;
-      eits = h.eits;
-      content_kind = h.content_kind;
-      content_id = h.content_id;
-      indicators =
-          indicators_are depth tag.constructed content m.1.value m.1.value_spelled;
-      deferral = h.deferral;
-      length_fits =
-          h.length_fits;
-      bilateral = h.bilateral;
-      recipients = h.recipients;
-      trace = h.trace;
-      extensions = h.extensions;
-      message = h.message;
-      probing = h.probing;
-    })
+    (holds h.same h.eits h.content_kind h.content_id
+    (indicators_are depth tag.constructed content m.1.value m.1.value_spelled) h.deferral h.length_fits h.bilateral
+    h.recipients h.trace h.extensions h.message h.probing)
 keeps_part b TraceList depth s t tag content octets is stands m h =
     subst (Holds b) (sym m.1.after_is)
-    (record {
-      same = h.same;
-      eits = h.eits;
-      content_kind = h.content_kind;
-      content_id = h.content_id;
-      indicators =
-          h.indicators;
-      deferral = h.deferral;
-      length_fits = h.length_fits;
-      bilateral = h.bilateral;
-      recipients =
-          h.recipients;
-      trace = m.1.value_spelled.at_most;
-      extensions = h.extensions;
-      message = h.message;
-      probing =
-          h.probing;
-    })
+    (holds h.same h.eits h.content_kind h.content_id h.indicators h.deferral h.length_fits h.bilateral h.recipients
+    m.1.value_spelled.at_most h.extensions h.message h.probing)
 keeps_part b ContentIdentifier depth s t tag content octets is stands m h =
     subst (Holds b) (sym m.1.after_is)
-    (record {
-      same = h.same;
-      eits = h.eits;
-      content_kind = h.content_kind;
-      content_id = m.1.value_spelled.is_text;
-      indicators = h.indicators;
-      deferral = h.deferral;
-      length_fits = h.length_fits;
-      bilateral = h.bilateral;
-      recipients = h.recipients;
-      trace = h.trace;
-      extensions = h.extensions;
-      message = h.message;
-      probing =
-          h.probing;
-    })
+    (holds h.same h.eits h.content_kind m.1.value_spelled.is_text h.indicators h.deferral h.length_fits h.bilateral
+    h.recipients h.trace h.extensions h.message h.probing)
 keeps_part b Deferral depth s t tag content octets is stands m h =
     subst (Holds b) (sym m.1.after_is)
-    (record {
-      same = h.same;
-      eits = h.eits;
-      content_kind = h.content_kind;
-      content_id = h.content_id;
-      indicators =
-          h.indicators;
-      deferral = m.1.value_spelled.is_text.in_range;
-      length_fits = h.length_fits;
-      bilateral =
-          h.bilateral;
-      recipients = h.recipients;
-      trace = h.trace;
-      extensions = h.extensions;
-      message = h.message;
-      probing = λ e. absurd (let k = no_probe b s.probe (is_tag 2 0 tag) h.same is e in k);
-    })
+    (holds h.same h.eits h.content_kind h.content_id h.indicators m.1.value_spelled.is_text.in_range h.length_fits
+    h.bilateral h.recipients h.trace h.extensions h.message
+    (λ e. absurd (let k = no_probe b s.probe (is_tag 2 0 tag) h.same is e in k)))
 keeps_part b Length depth s t tag content octets is stands m h =
     subst (Holds b) (sym m.1.after_is)
-    (record {
-      same = h.same;
-      eits = h.eits;
-      content_kind = h.content_kind;
-      content_id = h.content_id;
-      indicators =
-          h.indicators;
-      deferral = h.deferral;
-      length_fits =
-          number_small 0 longest m.1.value tag.constructed content m.1.value_spelled;
-      bilateral = h.bilateral;
-      recipients = h.recipients;
-      trace = h.trace;
-      extensions = h.extensions;
-      message =
-          λ e. absurd (let k = no_message b s.probe (is_primitive_tag 2 0 tag) h.same is e in k);
-      probing = h.probing;
-    })
+    (holds h.same h.eits h.content_kind h.content_id h.indicators h.deferral
+    (number_small 0 longest m.1.value tag.constructed content m.1.value_spelled) h.bilateral h.recipients h.trace
+    h.extensions (λ e. absurd (let k = no_message b s.probe (is_primitive_tag 2 0 tag) h.same is e in k)) h.probing)
 keeps_part b Bilateral depth s t tag content octets is stands m h =
     subst (Holds b) (sym m.1.after_is)
-    (record {
-      same = h.same;
-      eits = h.eits;
-      content_kind = h.content_kind;
-      content_id = h.content_id;
-      indicators =
-          h.indicators;
-      deferral = h.deferral;
-      length_fits = h.length_fits;
-      bilateral =
-          subst (IsRaw 2 1) (sym m.1.value_spelled)
-          (record { depth = depth; tag = tag; content = content; is_tag_of = is; stands = stands });
-      recipients =
-          h.recipients;
-      trace = h.trace;
-      extensions = h.extensions;
-      message = h.message;
-      probing = h.probing;
-    })
+    (holds h.same h.eits h.content_kind h.content_id h.indicators h.deferral h.length_fits
+    (subst (IsRaw 2 1) (sym m.1.value_spelled)
+    (record { depth = depth; tag = tag; content = content; is_tag_of = is; stands = stands }))
+    h.recipients h.trace h.extensions h.message h.probing)
 keeps_part b RecipientList depth s t tag content octets is stands m h =
     subst (Holds b) (sym m.1.after_is)
-    (record {
-      same = h.same;
-      eits = h.eits;
-      content_kind = h.content_kind;
-      content_id = h.content_id;
-      indicators =
-          h.indicators;
-      deferral = h.deferral;
-      length_fits = h.length_fits;
-      bilateral = h.bilateral;
-      recipients =
-          (m.1.value_spelled.at_least, m.1.value_spelled.at_most);
-      trace = h.trace;
-      extensions = h.extensions;
-      message =
-          h.message;
-      probing = h.probing;
-    })
+    (holds h.same h.eits h.content_kind h.content_id h.indicators h.deferral h.length_fits h.bilateral
+    (m.1.value_spelled.at_least, m.1.value_spelled.at_most) h.trace h.extensions h.message h.probing)
 keeps_part b ExtensionSet depth s t tag content octets is stands m h =
     subst (Holds b) (sym m.1.after_is)
-    (record {
-      same = h.same;
-      eits = h.eits;
-      content_kind = h.content_kind;
-      content_id = h.content_id;
-      indicators =
-          h.indicators;
-      deferral = h.deferral;
-      length_fits = h.length_fits;
-      bilateral = h.bilateral;
-      recipients =
-          h.recipients;
-      trace = h.trace;
-      extensions =
-          extensions_are depth tag.constructed content m.1.value m.1.value_spelled;
-      message = h.message;
-      probing =
-          h.probing;
-    })
+    (holds h.same h.eits h.content_kind h.content_id h.indicators h.deferral h.length_fits h.bilateral h.recipients
+    h.trace (extensions_are depth tag.constructed content m.1.value m.1.value_spelled) h.message h.probing)
 
 keeps : (b : Bool) → Keeps MakesEnvelope (Holds b)
 keeps b depth s t tag content octets stands m h =

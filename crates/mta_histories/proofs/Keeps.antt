@@ -2,8 +2,10 @@
 use Rattle.std.proofs.Common.{◌≡◌, ◌≢◌, ℕ, ◌+◌, ◌≤◌, Bool, true, false, cond, eqb, List, []}
 use Rattle.std.proofs.Common.{◌∷◌, length, Option, Some, None, refl, sym, ap, subst, ◌∙◌, arith, inl, inr}
 use Rattle.std.specs.Prelude.{◌⊎◌, ◌&&◌, ◌||◌, nat_lt}
+use Rattle.std.specs.List.{concat}
 use Rattle.std.proofs.lemmas.Bool.{cases_Bool, eqb-true, and_parts, true≢false}
-use Rattle.mta_lane_send.specs.Half.{is_idle, is_sending, goes_on, confirmed_of}
+use Rattle.mta_lane_recv.specs.Half.{IsOfHigh}
+use Rattle.mta_lane_send.specs.Half.{FitsState, is_idle, is_sending, goes_on, confirmed_of}
 use Rattle.mta_lane_send.specs.Pieces.{has_piece_after}
 use Rattle.mta_lane_send.proofs.Below.{fits-confirmed}
 use Rattle.mta_records.specs.Reference.{Identifier}
@@ -27,7 +29,8 @@ use Rattle.mta_histories.specs.History.{longest_activity, is_role, LaneNeeds, St
 use Rattle.mta_histories.specs.History.{lane_steps, on_lane_steps, class_steps, lane_after, on_lane_after, lanes_after}
 use Rattle.mta_histories.specs.History.{copied, octets_of, transfer_of, new_lane, discharge_by, when, after_step}
 use Rattle.mta_histories.specs.History.{machine_left, after_from, ArePossible, failures, sendings, failure_of_kind}
-use Rattle.mta_histories.specs.Kept.{IsWhole, IsFilled, IsDroppedReported, IsDecidedFor, IsDecided, pending_count}
+use Rattle.mta_histories.specs.Kept.{ArePieces, IsWhole, IsFilled, IsDroppedReported, IsDecidedFor, IsDecided}
+use Rattle.mta_histories.specs.Kept.{pending_count}
 use Rattle.mta_histories.specs.Kept.{IsKept}
 use Rattle.mta_histories.specs.Sound.{machine_begun, lanes_begun}
 use Rattle.mta_histories.specs.Laws.{StepsKeep, HistoriesKeep}
@@ -81,141 +84,69 @@ busy : (lane : Lane) (k : ℕ) → is_sending lane.sending k ≡ true
     → (lane.agreed ≡ false → is_idle lane.sending ≡ true) → lane.agreed ≡ false → ⊥
 busy lane k sends before apart = true≢false (sym (before apart) ∙ sending-busy lane.sending k sends)
 
+-- a lane is whole where each of its halves is, and what was agreed for it fits
+whole-lane : {lane : Lane} → FitsState lane.checkpoint lane.sending (total_of lane.transfer)
+    → IsOfHigh lane.high lane.last → ArePieces lane.last lane.pieces
+    → (lane.agreed ≡ false → is_idle lane.sending ≡ true) → lane.checkpoint ≤ 64
+    → ((1 ≤ lane.window) × (lane.window ≤ 8)) → length (concat lane.pieces) ≤ longest_activity
+    → IsWhole lane
+whole-lane sending receiving pieces before_agreed checkpoint_fits window_fits within =
+    record {
+      sending = sending;
+      receiving = receiving;
+      pieces = pieces;
+      before_agreed = before_agreed;
+      checkpoint_fits = checkpoint_fits;
+      window_fits = window_fits;
+      within = within;
+    }
+
 whole-after : (s : State) (lane : Lane) (step : LaneStep) (moment : ℕ) → LaneNeeds s lane step moment
     → IsWhole lane → IsWhole (lane_after s lane step moment)
-whole-after s lane (agree checkpoint window) moment needs w = record {
-  sending = fits-idle lane.checkpoint checkpoint lane.sending (total_of lane.transfer)
-      (w.before_agreed needs.1) w.sending;
-  receiving = w.receiving;
-  pieces = w.pieces;
-  before_agreed = λ e. absurd (true≢false e);
-  checkpoint_fits = omega (arith, needs.2, w.checkpoint_fits);
-  window_fits = (needs.3, omega (arith, needs.4, w.window_fits.1));
-  within = w.within;
-}
+whole-after s lane (agree checkpoint window) moment needs w =
+    whole-lane
+    (fits-idle lane.checkpoint checkpoint lane.sending (total_of lane.transfer) (w.before_agreed needs.1) w.sending)
+    w.receiving w.pieces (λ e. absurd (true≢false e)) (omega (arith, needs.2, w.checkpoint_fits))
+    (needs.3, omega (arith, needs.4, w.window_fits.1)) w.within
 whole-after s lane bind moment needs w =
-    record {
-      sending = w.sending;
-      receiving = w.receiving;
-      pieces = w.pieces;
-      before_agreed = w.before_agreed;
-      checkpoint_fits = w.checkpoint_fits;
-      window_fits = w.window_fits;
-      within = w.within;
-    }
-whole-after s lane (start k i rs) moment needs w = record {
-  sending = (
-    start-octets s lane k i rs moment needs,
-    has-first lane.checkpoint
-        (length (transfer_of s.machine i rs moment).octets) (start-octets s lane k i rs moment needs),
-  );
-  receiving = w.receiving;
-  pieces = w.pieces;
-  before_agreed = λ e. absurd (true≢false (sym needs.agreed ∙ e));
-  checkpoint_fits = w.checkpoint_fits;
-  window_fits = w.window_fits;
-  within = w.within;
-}
-whole-after s lane (confirm k n) moment needs w = record {
-  sending = fits-confirmed lane.checkpoint (total_of lane.transfer) n lane.sending w.sending
-      (and_parts (goes_on lane.sending k && nat_lt (confirmed_of lane.sending) n)
-      (has_piece_after lane.checkpoint (total_of lane.transfer) n) needs).1;
-  receiving = w.receiving;
-  pieces = w.pieces;
-  before_agreed = λ e. confirmed-idle lane.sending n ∙ w.before_agreed e;
-  checkpoint_fits = w.checkpoint_fits;
-  window_fits = w.window_fits;
-  within = w.within;
-}
-whole-after s lane (to_end k) moment needs w = record {
-  sending = fits-ending lane.checkpoint lane.sending (total_of lane.transfer) k needs w.sending;
-  receiving = w.receiving;
-  pieces = w.pieces;
-  before_agreed = λ e. absurd (busy lane k needs w.before_agreed e);
-  checkpoint_fits = w.checkpoint_fits;
-  window_fits = w.window_fits;
-  within = w.within;
-}
+    whole-lane w.sending w.receiving w.pieces w.before_agreed w.checkpoint_fits w.window_fits w.within
+whole-after s lane (start k i rs) moment needs w =
+    whole-lane (
+      start-octets s lane k i rs moment needs,
+      has-first lane.checkpoint (length (transfer_of s.machine i rs moment).octets)
+          (start-octets s lane k i rs moment needs),
+    )
+    w.receiving w.pieces (λ e. absurd (true≢false (sym needs.agreed ∙ e))) w.checkpoint_fits w.window_fits
+    w.within
+whole-after s lane (confirm k n) moment needs w =
+    whole-lane
+    (fits-confirmed lane.checkpoint (total_of lane.transfer) n lane.sending w.sending
+    (and_parts (goes_on lane.sending k && nat_lt (confirmed_of lane.sending) n)
+    (has_piece_after lane.checkpoint (total_of lane.transfer) n) needs).1)
+    w.receiving w.pieces (λ e. confirmed-idle lane.sending n ∙ w.before_agreed e) w.checkpoint_fits w.window_fits
+    w.within
+whole-after s lane (to_end k) moment needs w =
+    whole-lane (fits-ending lane.checkpoint lane.sending (total_of lane.transfer) k needs w.sending) w.receiving
+    w.pieces (λ e. absurd (busy lane k needs w.before_agreed e)) w.checkpoint_fits w.window_fits w.within
 whole-after s lane (settle was_sent k) moment needs w =
-    record {
-      sending = refl;
-      receiving = w.receiving;
-      pieces = w.pieces;
-      before_agreed = λ e. refl;
-      checkpoint_fits = w.checkpoint_fits;
-      window_fits = w.window_fits;
-      within = w.within;
-    }
+    whole-lane refl w.receiving w.pieces (λ e. refl) w.checkpoint_fits w.window_fits w.within
 whole-after s lane (settle (was_refused kind) k) moment needs w =
-    record {
-      sending = refl;
-      receiving = w.receiving;
-      pieces = w.pieces;
-      before_agreed = λ e. refl;
-      checkpoint_fits = w.checkpoint_fits;
-      window_fits = w.window_fits;
-      within = w.within;
-    }
+    whole-lane refl w.receiving w.pieces (λ e. refl) w.checkpoint_fits w.window_fits w.within
 whole-after s lane (settle was_denied k) moment needs w =
-    record {
-      sending = refl;
-      receiving = w.receiving;
-      pieces = w.pieces;
-      before_agreed = λ e. refl;
-      checkpoint_fits = w.checkpoint_fits;
-      window_fits = w.window_fits;
-      within = w.within;
-    }
+    whole-lane refl w.receiving w.pieces (λ e. refl) w.checkpoint_fits w.window_fits w.within
 whole-after s lane (settle was_dropped k) moment needs w =
-    record {
-      sending = refl;
-      receiving = w.receiving;
-      pieces = w.pieces;
-      before_agreed = λ e. refl;
-      checkpoint_fits = w.checkpoint_fits;
-      window_fits = w.window_fits;
-      within = w.within;
-    }
-whole-after s lane (abandon k) moment needs w = record {
-  sending = tt;
-  receiving = w.receiving;
-  pieces = w.pieces;
-  before_agreed = λ e. absurd (busy lane k needs.0 w.before_agreed e);
-  checkpoint_fits = w.checkpoint_fits;
-  window_fits = w.window_fits;
-  within = w.within;
-}
+    whole-lane refl w.receiving w.pieces (λ e. refl) w.checkpoint_fits w.window_fits w.within
+whole-after s lane (abandon k) moment needs w =
+    whole-lane tt w.receiving w.pieces (λ e. absurd (busy lane k needs.0 w.before_agreed e)) w.checkpoint_fits
+    w.window_fits w.within
 whole-after s lane (secure k n piece) moment needs w =
     let number = taken-number lane.high lane.last k n lane.pieces needs.taken w.pieces in
-    record {
-      sending = w.sending;
-      receiving = refl;
-      pieces = (number.0, with-length lane.pieces n piece number.0 number.1);
-      before_agreed = w.before_agreed;
-      checkpoint_fits = w.checkpoint_fits;
-      window_fits = w.window_fits;
-      within = needs.within;
-    }
+    whole-lane w.sending refl (number.0, with-length lane.pieces n piece number.0 number.1) w.before_agreed
+    w.checkpoint_fits w.window_fits needs.within
 whole-after s lane (complete k n piece) moment needs w =
-    record {
-      sending = w.sending;
-      receiving = refl;
-      pieces = refl;
-      before_agreed = w.before_agreed;
-      checkpoint_fits = w.checkpoint_fits;
-      window_fits = w.window_fits;
-      within = omega arith;
-    }
+    whole-lane w.sending refl refl w.before_agreed w.checkpoint_fits w.window_fits (omega arith)
 whole-after s lane (drop_pieces k) moment needs w =
-    record {
-      sending = w.sending;
-      receiving = tt;
-      pieces = refl;
-      before_agreed = w.before_agreed;
-      checkpoint_fits = w.checkpoint_fits;
-      window_fits = w.window_fits;
-      within = omega arith;
-    }
+    whole-lane w.sending tt refl w.before_agreed w.checkpoint_fits w.window_fits (omega arith)
 whole-after s lane close moment needs w = w
 
 -- ---- what a transfer rests on

@@ -8,7 +8,6 @@ use Rattle.std.proofs.lemmas.Bool.{true≢false}
 use Rattle.std.proofs.lemmas.List.Sums.{sum_by-cons, sum_by-append}
 use Rattle.mta_lane_recv.specs.declared.state.Last.{Last}
 use Rattle.mta_lane_recv.specs.declared.state.Last.TheVariants as last
-use Rattle.mta_lane_send.specs.declared.state.SendState.{SendState}
 use Rattle.mta_lane_send.specs.Half.{is_idle, last_of}
 use Rattle.mta_records.specs.declared.lane.LaneRole.{LaneRole}
 use Rattle.mta_records.specs.declared.lane.LaneRole.TheVariants.{Responder}
@@ -24,9 +23,9 @@ use Rattle.mta_histories.specs.Lanes.{is_transferring}
 use Rattle.mta_histories.specs.Limits.{longest_piece, octets_of, copied, is_with}
 use Rattle.mta_histories.specs.Classes.{was_sent, was_refused, was_denied, was_dropped, LaneStep, agree, bind, start}
 use Rattle.mta_histories.specs.Classes.{confirm, to_end, settle, abandon, secure, complete, drop_pieces, close}
-use Rattle.mta_histories.specs.History.{LaneNeeds, CanStart, lane_steps, lane_after, transfer_of, with_piece}
+use Rattle.mta_histories.specs.History.{LaneNeeds, lane_steps, lane_after, with_piece}
 use Rattle.mta_histories.specs.Kept.{ArePieces, IsWhole}
-use Rattle.mta_histories.specs.Sound.{IsSoundTransfer, HasSoundTransfer, IsPieceOf, IsSoundLane, IsSound, AreApart}
+use Rattle.mta_histories.specs.Sound.{HasSoundTransfer, IsPieceOf, IsSoundLane, AreApart}
 use Rattle.mta_histories.proofs.Halves.{confirmed-transferring, confirmed-idle, confirmed-last, sending-transferring}
 use Rattle.mta_histories.proofs.Halves.{sending-busy, sending-last}
 use Rattle.mta_histories.proofs.LaneLists.{each-at, each-put, each-without, each-more, each-weaker, bit_of}
@@ -151,131 +150,96 @@ busy-agreed : {A : Type 0} (s : State) (lane : Lane) → IsSoundLane s lane → 
     → lane.agreed ≡ false → A
 busy-agreed s lane x busy new = absurd (true≢false (sym (x.before_agreed new).0 ∙ busy))
 
+-- a lane is sound where what it rests on is
+sound-lane : {s : State} {lane : Lane} → (lane.role ≡ Responder → lane.agreed ≡ true)
+    → (lane.agreed ≡ false → (is_idle lane.sending ≡ true) × (lane.last ≡ last.None))
+    → HasSoundTransfer s lane lane.transfer → AllByRecursion (IsPieceOf lane) lane.pieces → IsSoundLane s lane
+sound-lane responder before_agreed transfer pieces =
+    record { responder = responder; before_agreed = before_agreed; transfer = transfer; pieces = pieces }
+
 pub lane-sound-after : (s : State) (lane : Lane) (step : LaneStep) (moment : ℕ) (ls : Lanes)
     → LaneNeeds s lane step moment → IsWhole lane → HasFormat s.machine → s.moment ≤ moment
     → IsRun s.machine (lane_steps lane step moment) → IsSoundLane s lane
     → IsSoundLane (left_by s (lane_steps lane step moment) ls moment) (lane_after s lane step moment)
 lane-sound-after s lane (agree checkpoint window) moment ls needs w format later run x =
     let new : Lane = lane_after s lane (agree checkpoint window) moment in
-    record {
-      responder = λ e. refl;
-      before_agreed = λ e. absurd (true≢false e);
-      transfer = has-stays s [] ls moment lane new later tt (λ a. a) (λ b. b) refl lane.transfer x.transfer;
-      pieces = no-pieces new lane.last lane.pieces (x.before_agreed needs.1).1 w.pieces;
-    }
+    sound-lane (λ e. refl) (λ e. absurd (true≢false e))
+    (has-stays s [] ls moment lane new later tt (λ a. a) (λ b. b) refl lane.transfer x.transfer)
+    (no-pieces new lane.last lane.pieces (x.before_agreed needs.1).1 w.pieces)
 lane-sound-after s lane bind moment ls needs w format later run x =
     let new : Lane = lane_after s lane bind moment in
-    record {
-      responder = x.responder;
-      before_agreed = x.before_agreed;
-      transfer = has-stays s [] ls moment lane new later tt (λ a. a) (λ b. b) refl lane.transfer x.transfer;
-      pieces = pieces-of lane new refl lane.pieces x.pieces;
-    }
+    sound-lane x.responder x.before_agreed
+    (has-stays s [] ls moment lane new later tt (λ a. a) (λ b. b) refl lane.transfer x.transfer)
+    (pieces-of lane new refl lane.pieces x.pieces)
 lane-sound-after s lane (start k i rs) moment ls needs w format later run x =
     let new : Lane = lane_after s lane (start k i rs) moment in
     let text = numbered-within s.machine.tables (last_tables s.machine) needs.text needs.text_is in
     let item = numbered-within s.machine.items i needs.item needs.item_is in
     let one = some-format s.machine format in
-    record {
-      responder = x.responder;
-      before_agreed = λ e. absurd (true≢false (sym needs.agreed ∙ e));
-      transfer = (
-        refl,
-        record {
-          activity = omega arith;
-          item = item;
-          tables = text;
-          format = (one, omega arith);
-          timely = omega arith;
-          copy = λ m. refl;
-        },
-      );
-      pieces = pieces-of lane new refl lane.pieces x.pieces;
-    }
+    sound-lane x.responder (λ e. absurd (true≢false (sym needs.agreed ∙ e))) (
+      refl,
+      record {
+        activity = omega arith;
+        item = item;
+        tables = text;
+        format = (one, omega arith);
+        timely =
+            omega arith;
+        copy = λ m. refl;
+      },
+    )
+    (pieces-of lane new refl lane.pieces x.pieces)
 lane-sound-after s lane (confirm k n) moment ls needs w format later run x =
     let new : Lane = lane_after s lane (confirm k n) moment in
-    record {
-      responder = x.responder;
-      before_agreed = λ e. (confirmed-idle lane.sending n ∙ (x.before_agreed e).0, (x.before_agreed e).1);
-      transfer = has-stays s [] ls moment lane new later tt
-          (λ a. subst (λ (l : ℕ). 1 ≤ l) (sym (confirmed-last lane.sending n)) a)
-          (λ b. sym (confirmed-transferring lane.sending n) ∙ b) (confirmed-idle lane.sending n) lane.transfer
-          x.transfer;
-      pieces = pieces-of lane new refl lane.pieces x.pieces;
-    }
+    sound-lane x.responder (λ e. (confirmed-idle lane.sending n ∙ (x.before_agreed e).0, (x.before_agreed e).1))
+    (has-stays s [] ls moment lane new later tt (λ a. subst (λ (l : ℕ). 1 ≤ l) (sym (confirmed-last lane.sending n)) a)
+    (λ b. sym (confirmed-transferring lane.sending n) ∙ b) (confirmed-idle lane.sending n) lane.transfer x.transfer)
+    (pieces-of lane new refl lane.pieces x.pieces)
 lane-sound-after s lane (to_end k) moment ls needs w format later run x =
     let new : Lane = lane_after s lane (to_end k) moment in
     let busy : is_idle lane.sending ≡ false = sending-busy lane.sending k needs in
-    record {
-      responder = x.responder;
-      before_agreed = λ e. busy-agreed s lane x busy e;
-      transfer = has-stays s [] ls moment lane new later tt
-          (λ a. subst (λ (l : ℕ). 1 ≤ l) (sym (sending-last lane.sending k needs)) a)
-          (λ b. sending-transferring lane.sending k needs) (sym busy) lane.transfer x.transfer;
-      pieces = pieces-of lane new refl lane.pieces x.pieces;
-    }
-lane-sound-after s lane (settle was_sent k) moment ls needs w format later run x = record {
-  responder = x.responder;
-  before_agreed = λ e. (refl, (x.before_agreed e).1);
-  transfer = refl;
-  pieces = pieces-of lane (lane_after s lane (settle was_sent k) moment) refl lane.pieces x.pieces;
-}
-lane-sound-after s lane (settle (was_refused kind) k) moment ls needs w format later run x = record {
-  responder = x.responder;
-  before_agreed = λ e. (refl, (x.before_agreed e).1);
-  transfer = refl;
-  pieces = pieces-of lane (lane_after s lane (settle (was_refused kind) k) moment) refl lane.pieces x.pieces;
-}
-lane-sound-after s lane (settle was_denied k) moment ls needs w format later run x = record {
-  responder = x.responder;
-  before_agreed = λ e. (refl, (x.before_agreed e).1);
-  transfer = refl;
-  pieces = pieces-of lane (lane_after s lane (settle was_denied k) moment) refl lane.pieces x.pieces;
-}
-lane-sound-after s lane (settle was_dropped k) moment ls needs w format later run x = record {
-  responder = x.responder;
-  before_agreed = λ e. (refl, (x.before_agreed e).1);
-  transfer = refl;
-  pieces = pieces-of lane (lane_after s lane (settle was_dropped k) moment) refl lane.pieces x.pieces;
-}
+    sound-lane x.responder (λ e. busy-agreed s lane x busy e)
+    (has-stays s [] ls moment lane new later tt
+    (λ a. subst (λ (l : ℕ). 1 ≤ l) (sym (sending-last lane.sending k needs)) a)
+    (λ b. sending-transferring lane.sending k needs) (sym busy) lane.transfer x.transfer)
+    (pieces-of lane new refl lane.pieces x.pieces)
+lane-sound-after s lane (settle was_sent k) moment ls needs w format later run x =
+    sound-lane x.responder (λ e. (refl, (x.before_agreed e).1)) refl
+    (pieces-of lane (lane_after s lane (settle was_sent k) moment) refl lane.pieces x.pieces)
+lane-sound-after s lane (settle (was_refused kind) k) moment ls needs w format later run x =
+    sound-lane x.responder (λ e. (refl, (x.before_agreed e).1)) refl
+    (pieces-of lane (lane_after s lane (settle (was_refused kind) k) moment) refl lane.pieces x.pieces)
+lane-sound-after s lane (settle was_denied k) moment ls needs w format later run x =
+    sound-lane x.responder (λ e. (refl, (x.before_agreed e).1)) refl
+    (pieces-of lane (lane_after s lane (settle was_denied k) moment) refl lane.pieces x.pieces)
+lane-sound-after s lane (settle was_dropped k) moment ls needs w format later run x =
+    sound-lane x.responder (λ e. (refl, (x.before_agreed e).1)) refl
+    (pieces-of lane (lane_after s lane (settle was_dropped k) moment) refl lane.pieces x.pieces)
 lane-sound-after s lane (abandon k) moment ls needs w format later run x =
     let new : Lane = lane_after s lane (abandon k) moment in
     let busy : is_idle lane.sending ≡ false = sending-busy lane.sending k needs.0 in
-    record {
-      responder = x.responder;
-      before_agreed = λ e. busy-agreed s lane x busy e;
-      transfer = has-stays s (lane_steps lane (abandon k) moment) ls moment lane new later run
-          (λ a. subst (λ (l : ℕ). 1 ≤ l) (sym (sending-last lane.sending k needs.0)) a)
-          (λ b. sending-transferring lane.sending k needs.0) (sym busy) lane.transfer x.transfer;
-      pieces = pieces-of lane new refl lane.pieces x.pieces;
-    }
+    sound-lane x.responder (λ e. busy-agreed s lane x busy e)
+    (has-stays s (lane_steps lane (abandon k) moment) ls moment lane new later run
+    (λ a. subst (λ (l : ℕ). 1 ≤ l) (sym (sending-last lane.sending k needs.0)) a)
+    (λ b. sending-transferring lane.sending k needs.0) (sym busy) lane.transfer x.transfer)
+    (pieces-of lane new refl lane.pieces x.pieces)
 lane-sound-after s lane (secure k n piece) moment ls needs w format later run x =
     let new : Lane = lane_after s lane (secure k n piece) moment in
-    record {
-      responder = x.responder;
-      before_agreed = λ e. absurd (true≢false (sym needs.agreed ∙ e));
-      transfer = has-stays s [] ls moment lane new later tt (λ a. a) (λ b. b) refl lane.transfer x.transfer;
-      pieces = pieces-of lane new refl (with_piece lane.pieces n piece)
-          (all-append (IsPieceOf lane) (take (n - 1) lane.pieces) (piece ∷ [])
-          (all-take (IsPieceOf lane) lane.pieces (n - 1) x.pieces) ((needs.some_octets, needs.short), tt));
-    }
+    sound-lane x.responder (λ e. absurd (true≢false (sym needs.agreed ∙ e)))
+    (has-stays s [] ls moment lane new later tt (λ a. a) (λ b. b) refl lane.transfer x.transfer)
+    (pieces-of lane new refl (with_piece lane.pieces n piece)
+    (all-append (IsPieceOf lane) (take (n - 1) lane.pieces) (piece ∷ [])
+    (all-take (IsPieceOf lane) lane.pieces (n - 1) x.pieces) ((needs.some_octets, needs.short), tt)))
 lane-sound-after s lane (complete k n piece) moment ls needs w format later run x =
     let new : Lane = lane_after s lane (complete k n piece) moment in
-    record {
-      responder = x.responder;
-      before_agreed = λ e. absurd (true≢false (sym needs.0.agreed ∙ e));
-      transfer = has-stays s (lane_steps lane (complete k n piece) moment) ls moment lane new later run (λ a. a)
-          (λ b. b) refl lane.transfer x.transfer;
-      pieces = tt;
-    }
+    sound-lane x.responder (λ e. absurd (true≢false (sym needs.0.agreed ∙ e)))
+    (has-stays s (lane_steps lane (complete k n piece) moment) ls moment lane new later run (λ a. a)
+    (λ b. b) refl lane.transfer x.transfer)
+    tt
 lane-sound-after s lane (drop_pieces k) moment ls needs w format later run x =
     let new : Lane = lane_after s lane (drop_pieces k) moment in
-    record {
-      responder = x.responder;
-      before_agreed = λ e. ((x.before_agreed e).0, refl);
-      transfer = has-stays s [] ls moment lane new later tt (λ a. a) (λ b. b) refl lane.transfer x.transfer;
-      pieces = tt;
-    }
+    sound-lane x.responder (λ e. ((x.before_agreed e).0, refl))
+    (has-stays s [] ls moment lane new later tt (λ a. a) (λ b. b) refl lane.transfer x.transfer) tt
 lane-sound-after s lane close moment ls needs w format later run x = lane-stays s [] ls moment lane later tt x
 
 -- ---- how many lanes there are with a peer

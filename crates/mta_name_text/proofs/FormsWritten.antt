@@ -2,7 +2,7 @@
 -- again.
 use Rattle.std.proofs.Common.{◌≡◌, ℕ, ◌≤◌, ◌<◌, Bool, true, false, eqb, ltb, List, [], ◌∷◌, ◌++◌, Option, Some, None}
 use Rattle.std.proofs.Common.{refl, sym, ap, ◌∙◌, inl, inr, arith, ◌||◌, not, append_assoc, append-nil}
-use Rattle.std.specs.Prelude.{map, IfSome, is_some}
+use Rattle.std.specs.Prelude.{map, option_map, IfSome, is_some}
 use Rattle.std.proofs.lemmas.Bool.{and_parts, or_cases, ne_eqb}
 use Rattle.mta_ber.specs.Strings.{is_empty}
 use Rattle.mta_names.specs.declared.attributes.Attributes.{Attributes}
@@ -15,7 +15,7 @@ use Rattle.mta_name_text.specs.declared.part.Part.{Part}
 use Rattle.mta_name_text.specs.declared.place.Grammar.TheVariants.{Names}
 use Rattle.mta_name_text.specs.declared.place.Place.{Place}
 use Rattle.mta_name_text.specs.Forms.{keyed, keyed_if, labelled_if, units_keyed, person_keyed, pair_keyed, pairs_keyed}
-use Rattle.mta_name_text.specs.Forms.{keyed_of, part_text, joined, text_form}
+use Rattle.mta_name_text.specs.Forms.{label_text, keyed_of, part_text, joined, text_form}
 use Rattle.mta_name_text.specs.Grammar.{start, behind, is_again, follows, is_kind, IsPart, Follow}
 use Rattle.mta_name_text.specs.Keys.{place_of, repeats, needs_surname}
 use Rattle.mta_name_text.specs.Made.{with_given, with_initials, with_generation, pair_of, put, put_at, put_all}
@@ -206,180 +206,179 @@ has_person p n k h f s =
       | inr none ↦ (let e : not true ≡ true = ap not (sym s) ∙ none in absurd cc)
     ]
 
+-- what is put where nothing stood, nor behind it
+put_keyed : (k : Key) (t v : List ℕ) (o : Option (List ℕ)) (rest : List Part) → o ≡ None → rest ≡ []
+    → is_kind false t ≡ true → keyed_if k (Some v) ++ rest ≡ (keyed_if k o ++ rest) ++ part k t v ∷ []
+put_keyed k t v o rest none e i =
+    inner (keyed_if k o) (keyed_if k (Some v)) rest (part k t v ∷ []) e
+    (put_first (keyed_if k o) (keyed k v) (part k t v) (ap (keyed_if k) none) (as_keyed k t v i))
+
+-- attributes in front that stay are passed
+module _ (n m : Attributes) (z : List Part) where
+  same : (s s' rest more : List Part) → s' ≡ s → more ≡ rest ++ z → s' ++ more ≡ (s ++ rest) ++ z
+  same s s' rest more e f = ap (λ x. x ++ more) e ∙ outer s rest more z f
+
+  past_country : m.country ≡ n.country → from_admd m ≡ from_admd n ++ z → keyed_of m ≡ keyed_of n ++ z
+  past_country e0 e =
+      same (labelled_if Keys.Country n.country) (labelled_if Keys.Country m.country) (from_admd n) (from_admd m)
+      (ap (labelled_if Keys.Country) e0) e
+
+  past_admd : m.country ≡ n.country → m.admd ≡ n.admd → from_prmd m ≡ from_prmd n ++ z
+      → keyed_of m ≡ keyed_of n ++ z
+  past_admd e0 e1 e =
+      past_country e0
+      (same (labelled_if Keys.Admd n.admd) (labelled_if Keys.Admd m.admd) (from_prmd n) (from_prmd m)
+      (ap (labelled_if Keys.Admd) e1) e)
+
+  past_prmd : m.country ≡ n.country → m.admd ≡ n.admd → m.prmd ≡ n.prmd
+      → from_organization m ≡ from_organization n ++ z → keyed_of m ≡ keyed_of n ++ z
+  past_prmd e0 e1 e2 e =
+      past_admd e0 e1
+      (same (labelled_if Keys.Prmd n.prmd) (labelled_if Keys.Prmd m.prmd) (from_organization n) (from_organization m)
+      (ap (labelled_if Keys.Prmd) e2) e)
+
+  past_organization : m.country ≡ n.country → m.admd ≡ n.admd → m.prmd ≡ n.prmd
+      → m.organization ≡ n.organization → from_units m ≡ from_units n ++ z
+      → keyed_of m ≡ keyed_of n ++ z
+  past_organization e0 e1 e2 e3 e =
+      past_prmd e0 e1 e2
+      (same (keyed_if Keys.Organization n.organization) (keyed_if Keys.Organization m.organization) (from_units n)
+      (from_units m) (ap (keyed_if Keys.Organization) e3) e)
+
+  past_units : m.country ≡ n.country → m.admd ≡ n.admd → m.prmd ≡ n.prmd
+      → m.organization ≡ n.organization → m.units ≡ n.units → from_person m ≡ from_person n ++ z
+      → keyed_of m ≡ keyed_of n ++ z
+  past_units e0 e1 e2 e3 e4 e =
+      past_organization e0 e1 e2 e3
+      (same (units_keyed n.units) (units_keyed m.units) (from_person n) (from_person m) (ap units_keyed e4) e)
+
+  past_person : m.country ≡ n.country → m.admd ≡ n.admd → m.prmd ≡ n.prmd
+      → m.organization ≡ n.organization → m.units ≡ n.units → m.person ≡ n.person
+      → from_common m ≡ from_common n ++ z → keyed_of m ≡ keyed_of n ++ z
+  past_person e0 e1 e2 e3 e4 e5 e =
+      past_units e0 e1 e2 e3 e4
+      (same (person_keyed n.person) (person_keyed m.person) (from_common n) (from_common m) (ap person_keyed e5) e)
+
+  past_common : m.country ≡ n.country → m.admd ≡ n.admd → m.prmd ≡ n.prmd
+      → m.organization ≡ n.organization → m.units ≡ n.units → m.person ≡ n.person
+      → m.common ≡ n.common → from_network m ≡ from_network n ++ z → keyed_of m ≡ keyed_of n ++ z
+  past_common e0 e1 e2 e3 e4 e5 e6 e =
+      past_person e0 e1 e2 e3 e4 e5
+      (same (keyed_if Keys.Common n.common) (keyed_if Keys.Common m.common) (from_network n) (from_network m)
+      (ap (keyed_if Keys.Common) e6) e)
+
+  past_network : m.country ≡ n.country → m.admd ≡ n.admd → m.prmd ≡ n.prmd
+      → m.organization ≡ n.organization → m.units ≡ n.units → m.person ≡ n.person
+      → m.common ≡ n.common → m.network ≡ n.network → from_terminal m ≡ from_terminal n ++ z
+      → keyed_of m ≡ keyed_of n ++ z
+  past_network e0 e1 e2 e3 e4 e5 e6 e7 e =
+      past_common e0 e1 e2 e3 e4 e5 e6
+      (same (keyed_if Keys.Network n.network) (keyed_if Keys.Network m.network) (from_terminal n) (from_terminal m)
+      (ap (keyed_if Keys.Network) e7) e)
+
+  past_terminal : m.country ≡ n.country → m.admd ≡ n.admd → m.prmd ≡ n.prmd
+      → m.organization ≡ n.organization → m.units ≡ n.units → m.person ≡ n.person
+      → m.common ≡ n.common → m.network ≡ n.network → m.terminal ≡ n.terminal
+      → from_user m ≡ from_user n ++ z → keyed_of m ≡ keyed_of n ++ z
+  past_terminal e0 e1 e2 e3 e4 e5 e6 e7 e8 e =
+      past_network e0 e1 e2 e3 e4 e5 e6 e7
+      (same (keyed_if Keys.Terminal n.terminal) (keyed_if Keys.Terminal m.terminal) (from_user n) (from_user m)
+      (ap (keyed_if Keys.Terminal) e8) e)
+
+  past_user : m.country ≡ n.country → m.admd ≡ n.admd → m.prmd ≡ n.prmd
+      → m.organization ≡ n.organization → m.units ≡ n.units → m.person ≡ n.person
+      → m.common ≡ n.common → m.network ≡ n.network → m.terminal ≡ n.terminal → m.user ≡ n.user
+      → pairs_keyed m.pairs ≡ pairs_keyed n.pairs ++ z → keyed_of m ≡ keyed_of n ++ z
+  past_user e0 e1 e2 e3 e4 e5 e6 e7 e8 e9 e =
+      past_terminal e0 e1 e2 e3 e4 e5 e6 e7 e8
+      (same (keyed_if Keys.User n.user) (keyed_if Keys.User m.user) (pairs_keyed n.pairs) (pairs_keyed m.pairs)
+      (ap (keyed_if Keys.User) e9) e)
+
+-- the part that is put stands behind those that stood
 keyed_more : (k : Key) (t v : List ℕ) (p : Place) (n : Attributes) → Fresh p n → follows Names p k ≡ true
     → IsPart (part k t v) → keyed_of (put_at k t v n) ≡ keyed_of n ++ part k t v ∷ []
 keyed_more Keys.Country t v p n h f i =
-    let m = put_at Keys.Country t v n in
-    let z = part Keys.Country t v ∷ [] in
     let l : p.last < 1 = only_later p n Keys.Country h f (λ e. omega arith) (λ e. omega arith) in
-    inner (labelled_if Keys.Country n.country) (labelled_if Keys.Country m.country) (from_admd n) z
-    (no_admd p n h (omega arith)) (put_first (labelled_if Keys.Country n.country) (keyed Keys.Country v)
-    (part Keys.Country t v) (ap (labelled_if Keys.Country) (h.country l)) (as_keyed Keys.Country t v i.kind))
+    put_keyed Keys.Country t v (option_map label_text n.country) (from_admd n)
+    (ap (option_map label_text) (h.country l)) (no_admd p n h (omega arith)) i.kind
 keyed_more Keys.Admd t v p n h f i =
-    let m = put_at Keys.Admd t v n in
-    let z = part Keys.Admd t v ∷ [] in
     let l : p.last < 2 = only_later p n Keys.Admd h f (λ e. omega arith) (λ e. omega arith) in
-    outer (labelled_if Keys.Country n.country) (from_admd n) (from_admd m) z
-    (inner (labelled_if Keys.Admd n.admd) (labelled_if Keys.Admd m.admd) (from_prmd n) z (no_prmd p n h (omega arith))
-    (put_first (labelled_if Keys.Admd n.admd) (keyed Keys.Admd v) (part Keys.Admd t v)
-    (ap (labelled_if Keys.Admd) (h.admd l)) (as_keyed Keys.Admd t v i.kind)))
+    past_country n (put_at Keys.Admd t v n) (part Keys.Admd t v ∷ []) refl
+    (put_keyed Keys.Admd t v (option_map label_text n.admd) (from_prmd n) (ap (option_map label_text) (h.admd l))
+    (no_prmd p n h (omega arith)) i.kind)
 keyed_more Keys.Prmd t v p n h f i =
-    let m = put_at Keys.Prmd t v n in
-    let z = part Keys.Prmd t v ∷ [] in
     let l : p.last < 3 = only_later p n Keys.Prmd h f (λ e. omega arith) (λ e. omega arith) in
-    outer (labelled_if Keys.Country n.country) (from_admd n) (from_admd m) z
-    (outer (labelled_if Keys.Admd n.admd) (from_prmd n) (from_prmd m) z
-    (inner (labelled_if Keys.Prmd n.prmd) (labelled_if Keys.Prmd m.prmd) (from_organization n) z
-    (no_organization p n h (omega arith))
-    (put_first (labelled_if Keys.Prmd n.prmd) (keyed Keys.Prmd v) (part Keys.Prmd t v)
-    (ap (labelled_if Keys.Prmd) (h.prmd l)) (as_keyed Keys.Prmd t v i.kind))))
+    past_admd n (put_at Keys.Prmd t v n) (part Keys.Prmd t v ∷ []) refl refl
+    (put_keyed Keys.Prmd t v (option_map label_text n.prmd) (from_organization n)
+    (ap (option_map label_text) (h.prmd l)) (no_organization p n h (omega arith)) i.kind)
 keyed_more Keys.Organization t v p n h f i =
-    let m = put_at Keys.Organization t v n in
-    let z = part Keys.Organization t v ∷ [] in
     let l : p.last < 4 = only_later p n Keys.Organization h f (λ e. omega arith) (λ e. omega arith) in
-    outer (labelled_if Keys.Country n.country) (from_admd n) (from_admd m) z
-    (outer (labelled_if Keys.Admd n.admd) (from_prmd n) (from_prmd m) z
-    (outer (labelled_if Keys.Prmd n.prmd) (from_organization n) (from_organization m) z
-    (inner (keyed_if Keys.Organization n.organization) (keyed_if Keys.Organization m.organization) (from_units n) z
-    (no_units p n h (omega arith)) (put_first (keyed_if Keys.Organization n.organization)
-    (keyed Keys.Organization v) (part Keys.Organization t v) (ap (keyed_if Keys.Organization) (h.organization l))
-    (as_keyed Keys.Organization t v i.kind)))))
+    past_prmd n (put_at Keys.Organization t v n) (part Keys.Organization t v ∷ []) refl refl refl
+    (put_keyed Keys.Organization t v n.organization (from_units n) (h.organization l)
+    (no_units p n h (omega arith)) i.kind)
 keyed_more Keys.Unit t v p n h f i =
-    let m = put_at Keys.Unit t v n in
-    let z = part Keys.Unit t v ∷ [] in
     let l : p.last ≤ 5 = not_before p Keys.Unit f in
-    outer (labelled_if Keys.Country n.country) (from_admd n) (from_admd m) z
-    (outer (labelled_if Keys.Admd n.admd) (from_prmd n) (from_prmd m) z
-    (outer (labelled_if Keys.Prmd n.prmd) (from_organization n) (from_organization m) z
-    (outer (keyed_if Keys.Organization n.organization) (from_units n) (from_units m) z
-    (inner (units_keyed n.units) (units_keyed m.units) (from_person n) z (no_person p n h (omega arith))
-    (units_more n.units v ∙ ap (λ x. units_keyed n.units ++ x ∷ []) (as_keyed Keys.Unit t v i.kind))))))
+    past_organization n (put_at Keys.Unit t v n) (part Keys.Unit t v ∷ []) refl refl refl refl
+    (inner (units_keyed n.units) (units_keyed (n.units ++ v ∷ [])) (from_person n) (part Keys.Unit t v ∷ [])
+    (no_person p n h (omega arith))
+    (units_more n.units v ∙ ap (λ x. units_keyed n.units ++ x ∷ []) (as_keyed Keys.Unit t v i.kind)))
 keyed_more Keys.Surname t v p n h f i =
     let m = put_at Keys.Surname t v n in
-    let z = part Keys.Surname t v ∷ [] in
     let l : p.last < 6 = only_later p n Keys.Surname h f (λ e. omega arith) (λ e. omega arith) in
-    outer (labelled_if Keys.Country n.country) (from_admd n) (from_admd m) z
-    (outer (labelled_if Keys.Admd n.admd) (from_prmd n) (from_prmd m) z
-    (outer (labelled_if Keys.Prmd n.prmd) (from_organization n) (from_organization m) z
-    (outer (keyed_if Keys.Organization n.organization) (from_units n) (from_units m) z
-    (outer (units_keyed n.units) (from_person n) (from_person m) z
-    (inner (person_keyed n.person) (person_keyed m.person) (from_common n) z (no_common p n h (omega arith))
+    past_units n (put_at Keys.Surname t v n) (part Keys.Surname t v ∷ []) refl refl refl refl refl
+    (inner (person_keyed n.person) (person_keyed m.person) (from_common n) (part Keys.Surname t v ∷ [])
+    (no_common p n h (omega arith))
     (put_first (person_keyed n.person) (keyed Keys.Surname v) (part Keys.Surname t v) (ap person_keyed (h.person l))
-    (as_keyed Keys.Surname t v i.kind)))))))
+    (as_keyed Keys.Surname t v i.kind)))
 keyed_more Keys.Given t v p n h f i =
     let m = put_at Keys.Given t v n in
-    let z = part Keys.Given t v ∷ [] in
     let l : p.last < 7 = only_later p n Keys.Given h f (λ e. omega arith) (λ e. omega arith) in
     let there = has_person p n Keys.Given h f refl in
-    outer (labelled_if Keys.Country n.country) (from_admd n) (from_admd m) z
-    (outer (labelled_if Keys.Admd n.admd) (from_prmd n) (from_prmd m) z
-    (outer (labelled_if Keys.Prmd n.prmd) (from_organization n) (from_organization m) z
-    (outer (keyed_if Keys.Organization n.organization) (from_units n) (from_units m) z
-    (outer (units_keyed n.units) (from_person n) (from_person m) z
-    (inner (person_keyed n.person) (person_keyed m.person) (from_common n) z (no_common p n h (omega arith))
+    past_units n (put_at Keys.Given t v n) (part Keys.Given t v ∷ []) refl refl refl refl refl
+    (inner (person_keyed n.person) (person_keyed m.person) (from_common n) (part Keys.Given t v ∷ [])
+    (no_common p n h (omega arith))
     (given_more n.person v there (h.given l) (h.initials (omega arith)) (h.generation (omega arith))
-    ∙ ap (λ x. person_keyed n.person ++ x ∷ []) (as_keyed Keys.Given t v i.kind)))))))
+    ∙ ap (λ x. person_keyed n.person ++ x ∷ []) (as_keyed Keys.Given t v i.kind)))
 keyed_more Keys.Initials t v p n h f i =
     let m = put_at Keys.Initials t v n in
-    let z = part Keys.Initials t v ∷ [] in
     let l : p.last < 8 = only_later p n Keys.Initials h f (λ e. omega arith) (λ e. omega arith) in
     let there = has_person p n Keys.Initials h f refl in
-    outer (labelled_if Keys.Country n.country) (from_admd n) (from_admd m) z
-    (outer (labelled_if Keys.Admd n.admd) (from_prmd n) (from_prmd m) z
-    (outer (labelled_if Keys.Prmd n.prmd) (from_organization n) (from_organization m) z
-    (outer (keyed_if Keys.Organization n.organization) (from_units n) (from_units m) z
-    (outer (units_keyed n.units) (from_person n) (from_person m) z
-    (inner (person_keyed n.person) (person_keyed m.person) (from_common n) z (no_common p n h (omega arith))
+    past_units n (put_at Keys.Initials t v n) (part Keys.Initials t v ∷ []) refl refl refl refl refl
+    (inner (person_keyed n.person) (person_keyed m.person) (from_common n) (part Keys.Initials t v ∷ [])
+    (no_common p n h (omega arith))
     (initials_more n.person v there (h.initials l) (h.generation (omega arith))
-    ∙ ap (λ x. person_keyed n.person ++ x ∷ []) (as_keyed Keys.Initials t v i.kind)))))))
+    ∙ ap (λ x. person_keyed n.person ++ x ∷ []) (as_keyed Keys.Initials t v i.kind)))
 keyed_more Keys.Generation t v p n h f i =
     let m = put_at Keys.Generation t v n in
-    let z = part Keys.Generation t v ∷ [] in
     let l : p.last < 9 = only_later p n Keys.Generation h f (λ e. omega arith) (λ e. omega arith) in
     let there = has_person p n Keys.Generation h f refl in
-    outer (labelled_if Keys.Country n.country) (from_admd n) (from_admd m) z
-    (outer (labelled_if Keys.Admd n.admd) (from_prmd n) (from_prmd m) z
-    (outer (labelled_if Keys.Prmd n.prmd) (from_organization n) (from_organization m) z
-    (outer (keyed_if Keys.Organization n.organization) (from_units n) (from_units m) z
-    (outer (units_keyed n.units) (from_person n) (from_person m) z
-    (inner (person_keyed n.person) (person_keyed m.person) (from_common n) z (no_common p n h (omega arith))
+    past_units n (put_at Keys.Generation t v n) (part Keys.Generation t v ∷ []) refl refl refl refl refl
+    (inner (person_keyed n.person) (person_keyed m.person) (from_common n) (part Keys.Generation t v ∷ [])
+    (no_common p n h (omega arith))
     (generation_more n.person v there (h.generation l)
-    ∙ ap (λ x. person_keyed n.person ++ x ∷ []) (as_keyed Keys.Generation t v i.kind)))))))
+    ∙ ap (λ x. person_keyed n.person ++ x ∷ []) (as_keyed Keys.Generation t v i.kind)))
 keyed_more Keys.Common t v p n h f i =
-    let m = put_at Keys.Common t v n in
-    let z = part Keys.Common t v ∷ [] in
     let l : p.last < 10 = only_later p n Keys.Common h f (λ e. omega arith) (λ e. omega arith) in
-    outer (labelled_if Keys.Country n.country) (from_admd n) (from_admd m) z
-    (outer (labelled_if Keys.Admd n.admd) (from_prmd n) (from_prmd m) z
-    (outer (labelled_if Keys.Prmd n.prmd) (from_organization n) (from_organization m) z
-    (outer (keyed_if Keys.Organization n.organization) (from_units n) (from_units m) z
-    (outer (units_keyed n.units) (from_person n) (from_person m) z
-    (outer (person_keyed n.person) (from_common n) (from_common m) z
-    (inner (keyed_if Keys.Common n.common) (keyed_if Keys.Common m.common) (from_network n) z
-    (no_network p n h (omega arith))
-    (put_first (keyed_if Keys.Common n.common) (keyed Keys.Common v) (part Keys.Common t v)
-    (ap (keyed_if Keys.Common) (h.common l)) (as_keyed Keys.Common t v i.kind))))))))
+    past_person n (put_at Keys.Common t v n) (part Keys.Common t v ∷ []) refl refl refl refl refl refl
+    (put_keyed Keys.Common t v n.common (from_network n) (h.common l) (no_network p n h (omega arith)) i.kind)
 keyed_more Keys.Network t v p n h f i =
-    let m = put_at Keys.Network t v n in
-    let z = part Keys.Network t v ∷ [] in
     let l : p.last < 11 = only_later p n Keys.Network h f (λ e. omega arith) (λ e. omega arith) in
-    outer (labelled_if Keys.Country n.country) (from_admd n) (from_admd m) z
-    (outer (labelled_if Keys.Admd n.admd) (from_prmd n) (from_prmd m) z
-    (outer (labelled_if Keys.Prmd n.prmd) (from_organization n) (from_organization m) z
-    (outer (keyed_if Keys.Organization n.organization) (from_units n) (from_units m) z
-    (outer (units_keyed n.units) (from_person n) (from_person m) z
-    (outer (person_keyed n.person) (from_common n) (from_common m) z
-    (outer (keyed_if Keys.Common n.common) (from_network n) (from_network m) z
-    (inner (keyed_if Keys.Network n.network) (keyed_if Keys.Network m.network) (from_terminal n) z
-    (no_terminal p n h (omega arith))
-    (put_first (keyed_if Keys.Network n.network) (keyed Keys.Network v) (part Keys.Network t v)
-    (ap (keyed_if Keys.Network) (h.network l)) (as_keyed Keys.Network t v i.kind)))))))))
+    past_common n (put_at Keys.Network t v n) (part Keys.Network t v ∷ []) refl refl refl refl refl refl refl
+    (put_keyed Keys.Network t v n.network (from_terminal n) (h.network l) (no_terminal p n h (omega arith)) i.kind)
 keyed_more Keys.Terminal t v p n h f i =
-    let m = put_at Keys.Terminal t v n in
-    let z = part Keys.Terminal t v ∷ [] in
     let l : p.last < 12 = only_later p n Keys.Terminal h f (λ e. omega arith) (λ e. omega arith) in
-    outer (labelled_if Keys.Country n.country) (from_admd n) (from_admd m) z
-    (outer (labelled_if Keys.Admd n.admd) (from_prmd n) (from_prmd m) z
-    (outer (labelled_if Keys.Prmd n.prmd) (from_organization n) (from_organization m) z
-    (outer (keyed_if Keys.Organization n.organization) (from_units n) (from_units m) z
-    (outer (units_keyed n.units) (from_person n) (from_person m) z
-    (outer (person_keyed n.person) (from_common n) (from_common m) z
-    (outer (keyed_if Keys.Common n.common) (from_network n) (from_network m) z
-    (outer (keyed_if Keys.Network n.network) (from_terminal n) (from_terminal m) z
-    (inner (keyed_if Keys.Terminal n.terminal) (keyed_if Keys.Terminal m.terminal) (from_user n) z
-    (no_user p n h (omega arith)) (put_first (keyed_if Keys.Terminal n.terminal) (keyed Keys.Terminal v)
-    (part Keys.Terminal t v) (ap (keyed_if Keys.Terminal) (h.terminal l))
-    (as_keyed Keys.Terminal t v i.kind))))))))))
+    past_network n (put_at Keys.Terminal t v n) (part Keys.Terminal t v ∷ []) refl refl refl refl refl refl refl
+    refl
+    (put_keyed Keys.Terminal t v n.terminal (from_user n) (h.terminal l) (no_user p n h (omega arith)) i.kind)
 keyed_more Keys.User t v p n h f i =
-    let m = put_at Keys.User t v n in
-    let z = part Keys.User t v ∷ [] in
     let l : p.last < 13 = only_later p n Keys.User h f (λ e. omega arith) (λ e. omega arith) in
-    outer (labelled_if Keys.Country n.country) (from_admd n) (from_admd m) z
-    (outer (labelled_if Keys.Admd n.admd) (from_prmd n) (from_prmd m) z
-    (outer (labelled_if Keys.Prmd n.prmd) (from_organization n) (from_organization m) z
-    (outer (keyed_if Keys.Organization n.organization) (from_units n) (from_units m) z
-    (outer (units_keyed n.units) (from_person n) (from_person m) z
-    (outer (person_keyed n.person) (from_common n) (from_common m) z
-    (outer (keyed_if Keys.Common n.common) (from_network n) (from_network m) z
-    (outer (keyed_if Keys.Network n.network) (from_terminal n) (from_terminal m) z
-    (outer (keyed_if Keys.Terminal n.terminal) (from_user n) (from_user m) z
-    (inner (keyed_if Keys.User n.user) (keyed_if Keys.User m.user) (pairs_keyed n.pairs) z
-    (no_pairs p n h (omega arith)) (put_first (keyed_if Keys.User n.user) (keyed Keys.User v) (part Keys.User t v)
-    (ap (keyed_if Keys.User) (h.user l)) (as_keyed Keys.User t v i.kind)))))))))))
+    past_terminal n (put_at Keys.User t v n) (part Keys.User t v ∷ []) refl refl refl refl refl refl refl refl
+    refl
+    (put_keyed Keys.User t v n.user (pairs_keyed n.pairs) (h.user l) (no_pairs p n h (omega arith)) i.kind)
 keyed_more Keys.Pair t v p n h f i =
-    let m = put_at Keys.Pair t v n in
-    let z = part Keys.Pair t v ∷ [] in
-    outer (labelled_if Keys.Country n.country) (from_admd n) (from_admd m) z
-    (outer (labelled_if Keys.Admd n.admd) (from_prmd n) (from_prmd m) z
-    (outer (labelled_if Keys.Prmd n.prmd) (from_organization n) (from_organization m) z
-    (outer (keyed_if Keys.Organization n.organization) (from_units n) (from_units m) z
-    (outer (units_keyed n.units) (from_person n) (from_person m) z
-    (outer (person_keyed n.person) (from_common n) (from_common m) z
-    (outer (keyed_if Keys.Common n.common) (from_network n) (from_network m) z
-    (outer (keyed_if Keys.Network n.network) (from_terminal n) (from_terminal m) z
-    (outer (keyed_if Keys.Terminal n.terminal) (from_user n) (from_user m) z
-    (outer (keyed_if Keys.User n.user) (pairs_keyed n.pairs) (pairs_keyed m.pairs) z
-    (pairs_more n.pairs (pair_of t v)))))))))))
+    past_user n (put_at Keys.Pair t v n) (part Keys.Pair t v ∷ []) refl refl refl refl refl refl refl refl refl
+    refl
+    (pairs_more n.pairs (pair_of t v))
 
 -- ---- nothing stands behind the part that was put
 
@@ -418,300 +417,133 @@ none_left : (p : Place) (k : Key) → p.last < place_of k → repeats k ≡ 0 �
 none_left p k l r = let other : eqb p.last (place_of k) ≡ false = ne_eqb p.last (place_of k) (λ e. omega arith) in
     rw other r
 
+-- what nothing stands behind, part by part
+fresh : {p : Place} {n : Attributes} → (p.last < 1 → n.country ≡ None)
+    → (p.last < 2 → n.admd ≡ None) → (p.last < 3 → n.prmd ≡ None)
+    → (p.last < 4 → n.organization ≡ None) → (p.last < 5 → n.units ≡ [])
+    → (p.last < 6 → n.person ≡ None) → (p.last < 7 → IfSome n.person (λ q. q.given ≡ None))
+    → (p.last < 8 → IfSome n.person (λ q. q.initials ≡ None))
+    → (p.last < 9 → IfSome n.person (λ q. q.generation ≡ None)) → (p.last < 10 → n.common ≡ None)
+    → (p.last < 11 → n.network ≡ None) → (p.last < 12 → n.terminal ≡ None)
+    → (p.last < 13 → n.user ≡ None) → (p.last < 14 → n.pairs ≡ [])
+    → (p.surname ≡ true → is_some n.person ≡ true)
+    → ((p.last ≡ 5 → ⊥) → (p.last ≡ 14 → ⊥) → p.left ≡ 0) → Fresh p n
+fresh country admd prmd organization units person given initials generation common network terminal user pairs surname
+    left = record {
+      country = country;
+      admd = admd;
+      prmd = prmd;
+      organization = organization;
+      units = units;
+      person = person;
+      given = given;
+      initials = initials;
+      generation = generation;
+      common = common;
+      network = network;
+      terminal = terminal;
+      user = user;
+      pairs = pairs;
+      surname = surname;
+      left = left;
+    }
+
+-- it stays so for a place behind
+weaker : (p : Place) (c : ℕ) (n : Attributes) → Fresh p n → p.last ≤ c
+    → Fresh (record { last = c; left = 0; surname = p.surname }) n
+weaker p c n h b =
+    fresh (λ g. h.country (omega arith)) (λ g. h.admd (omega arith)) (λ g. h.prmd (omega arith))
+    (λ g. h.organization (omega arith)) (λ g. h.units (omega arith)) (λ g. h.person (omega arith))
+    (λ g. h.given (omega arith)) (λ g. h.initials (omega arith)) (λ g. h.generation (omega arith))
+    (λ g. h.common (omega arith)) (λ g. h.network (omega arith)) (λ g. h.terminal (omega arith))
+    (λ g. h.user (omega arith)) (λ g. h.pairs (omega arith)) h.surname (λ u r. refl)
+
 fresh_more : (k : Key) (t v : List ℕ) (p : Place) (n : Attributes) → Fresh p n → follows Names p k ≡ true
     → Fresh (behind p k) (put_at k t v n)
 fresh_more Keys.Country t v p n h f =
-    let b : p.last ≤ 1 = not_before p Keys.Country f in
+    let w = weaker p 1 n h (not_before p Keys.Country f) in
     let l : p.last < 1 = only_later p n Keys.Country h f (λ e. omega arith) (λ e. omega arith) in
-    record {
-      country = λ g. absurd (omega arith);
-      admd = λ g. h.admd (omega arith);
-      prmd = λ g. h.prmd (omega arith);
-      organization = λ g. h.organization (omega arith);
-      units = λ g. h.units (omega arith);
-      person = λ g. h.person (omega arith);
-      given = λ g. h.given (omega arith);
-      initials = λ g. h.initials (omega arith);
-      generation = λ g. h.generation (omega arith);
-      common = λ g. h.common (omega arith);
-      network = λ g. h.network (omega arith);
-      terminal = λ g. h.terminal (omega arith);
-      user = λ g. h.user (omega arith);
-      pairs = λ g. h.pairs (omega arith);
-      surname = λ e. h.surname (or_false p.surname e);
-      left = λ u r. none_left p Keys.Country l refl;
-    }
+    fresh (λ g. absurd (omega arith)) w.admd w.prmd w.organization w.units w.person w.given w.initials w.generation
+    w.common w.network w.terminal w.user w.pairs (λ e. h.surname (or_false p.surname e))
+    (λ u r. none_left p Keys.Country l refl)
 fresh_more Keys.Admd t v p n h f =
-    let b : p.last ≤ 2 = not_before p Keys.Admd f in
+    let w = weaker p 2 n h (not_before p Keys.Admd f) in
     let l : p.last < 2 = only_later p n Keys.Admd h f (λ e. omega arith) (λ e. omega arith) in
-    record {
-      country = λ g. absurd (omega arith);
-      admd = λ g. absurd (omega arith);
-      prmd = λ g. h.prmd (omega arith);
-      organization = λ g. h.organization (omega arith);
-      units = λ g. h.units (omega arith);
-      person = λ g. h.person (omega arith);
-      given = λ g. h.given (omega arith);
-      initials = λ g. h.initials (omega arith);
-      generation = λ g. h.generation (omega arith);
-      common = λ g. h.common (omega arith);
-      network = λ g. h.network (omega arith);
-      terminal = λ g. h.terminal (omega arith);
-      user = λ g. h.user (omega arith);
-      pairs = λ g. h.pairs (omega arith);
-      surname = λ e. h.surname (or_false p.surname e);
-      left = λ u r. none_left p Keys.Admd l refl;
-    }
+    fresh w.country (λ g. absurd (omega arith)) w.prmd w.organization w.units w.person w.given w.initials
+    w.generation w.common w.network w.terminal w.user w.pairs (λ e. h.surname (or_false p.surname e))
+    (λ u r. none_left p Keys.Admd l refl)
 fresh_more Keys.Prmd t v p n h f =
-    let b : p.last ≤ 3 = not_before p Keys.Prmd f in
+    let w = weaker p 3 n h (not_before p Keys.Prmd f) in
     let l : p.last < 3 = only_later p n Keys.Prmd h f (λ e. omega arith) (λ e. omega arith) in
-    record {
-      country = λ g. absurd (omega arith);
-      admd = λ g. absurd (omega arith);
-      prmd = λ g. absurd (omega arith);
-      organization = λ g. h.organization (omega arith);
-      units = λ g. h.units (omega arith);
-      person = λ g. h.person (omega arith);
-      given = λ g. h.given (omega arith);
-      initials = λ g. h.initials (omega arith);
-      generation = λ g. h.generation (omega arith);
-      common = λ g. h.common (omega arith);
-      network = λ g. h.network (omega arith);
-      terminal = λ g. h.terminal (omega arith);
-      user = λ g. h.user (omega arith);
-      pairs = λ g. h.pairs (omega arith);
-      surname = λ e. h.surname (or_false p.surname e);
-      left = λ u r. none_left p Keys.Prmd l refl;
-    }
+    fresh w.country w.admd (λ g. absurd (omega arith)) w.organization w.units w.person w.given w.initials
+    w.generation w.common w.network w.terminal w.user w.pairs (λ e. h.surname (or_false p.surname e))
+    (λ u r. none_left p Keys.Prmd l refl)
 fresh_more Keys.Organization t v p n h f =
-    let b : p.last ≤ 4 = not_before p Keys.Organization f in
+    let w = weaker p 4 n h (not_before p Keys.Organization f) in
     let l : p.last < 4 = only_later p n Keys.Organization h f (λ e. omega arith) (λ e. omega arith) in
-    record {
-      country = λ g. absurd (omega arith);
-      admd = λ g. absurd (omega arith);
-      prmd = λ g. absurd (omega arith);
-      organization = λ g. absurd (omega arith);
-      units = λ g. h.units (omega arith);
-      person = λ g. h.person (omega arith);
-      given = λ g. h.given (omega arith);
-      initials = λ g. h.initials (omega arith);
-      generation = λ g. h.generation (omega arith);
-      common = λ g. h.common (omega arith);
-      network = λ g. h.network (omega arith);
-      terminal = λ g. h.terminal (omega arith);
-      user = λ g. h.user (omega arith);
-      pairs = λ g. h.pairs (omega arith);
-      surname = λ e. h.surname (or_false p.surname e);
-      left = λ u r. none_left p Keys.Organization l refl;
-    }
+    fresh w.country w.admd w.prmd (λ g. absurd (omega arith)) w.units w.person w.given w.initials w.generation
+    w.common w.network w.terminal w.user w.pairs (λ e. h.surname (or_false p.surname e))
+    (λ u r. none_left p Keys.Organization l refl)
 fresh_more Keys.Unit t v p n h f =
-    let b : p.last ≤ 5 = not_before p Keys.Unit f in
-    record {
-      country = λ g. absurd (omega arith);
-      admd = λ g. absurd (omega arith);
-      prmd = λ g. absurd (omega arith);
-      organization = λ g. absurd (omega arith);
-      units = λ g. absurd (omega arith);
-      person = λ g. h.person (omega arith);
-      given = λ g. h.given (omega arith);
-      initials = λ g. h.initials (omega arith);
-      generation = λ g. h.generation (omega arith);
-      common = λ g. h.common (omega arith);
-      network = λ g. h.network (omega arith);
-      terminal = λ g. h.terminal (omega arith);
-      user = λ g. h.user (omega arith);
-      pairs = λ g. h.pairs (omega arith);
-      surname = λ e. h.surname (or_false p.surname e);
-      left = λ u r. absurd (u refl);
-    }
+    let w = weaker p 5 n h (not_before p Keys.Unit f) in
+    fresh w.country w.admd w.prmd w.organization (λ g. absurd (omega arith)) w.person w.given w.initials
+    w.generation w.common w.network w.terminal w.user w.pairs (λ e. h.surname (or_false p.surname e))
+    (λ u r. absurd (u refl))
 fresh_more Keys.Surname t v p n h f =
-    let b : p.last ≤ 6 = not_before p Keys.Surname f in
+    let w = weaker p 6 n h (not_before p Keys.Surname f) in
     let l : p.last < 6 = only_later p n Keys.Surname h f (λ e. omega arith) (λ e. omega arith) in
-    record {
-      country = λ g. absurd (omega arith);
-      admd = λ g. absurd (omega arith);
-      prmd = λ g. absurd (omega arith);
-      organization = λ g. absurd (omega arith);
-      units = λ g. absurd (omega arith);
-      person = λ g. absurd (omega arith);
-      given = λ g. refl;
-      initials = λ g. refl;
-      generation = λ g. refl;
-      common = λ g. h.common (omega arith);
-      network = λ g. h.network (omega arith);
-      terminal = λ g. h.terminal (omega arith);
-      user = λ g. h.user (omega arith);
-      pairs = λ g. h.pairs (omega arith);
-      surname = λ e. refl;
-      left = λ u r. none_left p Keys.Surname l refl;
-    }
+    fresh w.country w.admd w.prmd w.organization w.units (λ g. absurd (omega arith)) (λ g. refl) (λ g. refl)
+    (λ g. refl) w.common w.network w.terminal w.user w.pairs (λ e. refl) (λ u r. none_left p Keys.Surname l refl)
 fresh_more Keys.Given t v p n h f =
-    let b : p.last ≤ 7 = not_before p Keys.Given f in
+    let w = weaker p 7 n h (not_before p Keys.Given f) in
     let l : p.last < 7 = only_later p n Keys.Given h f (λ e. omega arith) (λ e. omega arith) in
-    record {
-      country = λ g. absurd (omega arith);
-      admd = λ g. absurd (omega arith);
-      prmd = λ g. absurd (omega arith);
-      organization = λ g. absurd (omega arith);
-      units = λ g. absurd (omega arith);
-      person = λ g. absurd (omega arith);
-      given = λ g. absurd (omega arith);
-      initials = λ g. given_kept n.person v (h.initials (omega arith));
-      generation = λ g. given_kept_too n.person v (h.generation (omega arith));
-      common = λ g. h.common (omega arith);
-      network = λ g. h.network (omega arith);
-      terminal = λ g. h.terminal (omega arith);
-      user = λ g. h.user (omega arith);
-      pairs = λ g. h.pairs (omega arith);
-      surname = λ e. given_there n.person v (h.surname (or_false p.surname e));
-      left = λ u r. none_left p Keys.Given l refl;
-    }
+    fresh w.country w.admd w.prmd w.organization w.units (λ g. absurd (omega arith)) (λ g. absurd (omega arith))
+    (λ g. given_kept n.person v (w.initials g)) (λ g. given_kept_too n.person v (w.generation g)) w.common
+    w.network w.terminal w.user w.pairs (λ e. given_there n.person v (h.surname (or_false p.surname e)))
+    (λ u r. none_left p Keys.Given l refl)
 fresh_more Keys.Initials t v p n h f =
-    let b : p.last ≤ 8 = not_before p Keys.Initials f in
+    let w = weaker p 8 n h (not_before p Keys.Initials f) in
     let l : p.last < 8 = only_later p n Keys.Initials h f (λ e. omega arith) (λ e. omega arith) in
-    record {
-      country = λ g. absurd (omega arith);
-      admd = λ g. absurd (omega arith);
-      prmd = λ g. absurd (omega arith);
-      organization = λ g. absurd (omega arith);
-      units = λ g. absurd (omega arith);
-      person = λ g. absurd (omega arith);
-      given = λ g. absurd (omega arith);
-      initials = λ g. absurd (omega arith);
-      generation = λ g. initials_kept n.person v (h.generation (omega arith));
-      common = λ g. h.common (omega arith);
-      network = λ g. h.network (omega arith);
-      terminal = λ g. h.terminal (omega arith);
-      user = λ g. h.user (omega arith);
-      pairs = λ g. h.pairs (omega arith);
-      surname = λ e. initials_there n.person v (h.surname (or_false p.surname e));
-      left = λ u r. none_left p Keys.Initials l refl;
-    }
+    fresh w.country w.admd w.prmd w.organization w.units (λ g. absurd (omega arith)) (λ g. absurd (omega arith))
+    (λ g. absurd (omega arith)) (λ g. initials_kept n.person v (w.generation g)) w.common w.network w.terminal
+    w.user w.pairs (λ e. initials_there n.person v (h.surname (or_false p.surname e)))
+    (λ u r. none_left p Keys.Initials l refl)
 fresh_more Keys.Generation t v p n h f =
-    let b : p.last ≤ 9 = not_before p Keys.Generation f in
+    let w = weaker p 9 n h (not_before p Keys.Generation f) in
     let l : p.last < 9 = only_later p n Keys.Generation h f (λ e. omega arith) (λ e. omega arith) in
-    record {
-      country = λ g. absurd (omega arith);
-      admd = λ g. absurd (omega arith);
-      prmd = λ g. absurd (omega arith);
-      organization = λ g. absurd (omega arith);
-      units = λ g. absurd (omega arith);
-      person = λ g. absurd (omega arith);
-      given = λ g. absurd (omega arith);
-      initials = λ g. absurd (omega arith);
-      generation = λ g. absurd (omega arith);
-      common = λ g. h.common (omega arith);
-      network = λ g. h.network (omega arith);
-      terminal = λ g. h.terminal (omega arith);
-      user = λ g. h.user (omega arith);
-      pairs = λ g. h.pairs (omega arith);
-      surname = λ e. generation_there n.person v (h.surname (or_false p.surname e));
-      left = λ u r. none_left p Keys.Generation l refl;
-    }
+    fresh w.country w.admd w.prmd w.organization w.units (λ g. absurd (omega arith)) (λ g. absurd (omega arith))
+    (λ g. absurd (omega arith)) (λ g. absurd (omega arith)) w.common w.network w.terminal w.user w.pairs
+    (λ e. generation_there n.person v (h.surname (or_false p.surname e)))
+    (λ u r. none_left p Keys.Generation l refl)
 fresh_more Keys.Common t v p n h f =
-    let b : p.last ≤ 10 = not_before p Keys.Common f in
+    let w = weaker p 10 n h (not_before p Keys.Common f) in
     let l : p.last < 10 = only_later p n Keys.Common h f (λ e. omega arith) (λ e. omega arith) in
-    record {
-      country = λ g. absurd (omega arith);
-      admd = λ g. absurd (omega arith);
-      prmd = λ g. absurd (omega arith);
-      organization = λ g. absurd (omega arith);
-      units = λ g. absurd (omega arith);
-      person = λ g. absurd (omega arith);
-      given = λ g. absurd (omega arith);
-      initials = λ g. absurd (omega arith);
-      generation = λ g. absurd (omega arith);
-      common = λ g. absurd (omega arith);
-      network = λ g. h.network (omega arith);
-      terminal = λ g. h.terminal (omega arith);
-      user = λ g. h.user (omega arith);
-      pairs = λ g. h.pairs (omega arith);
-      surname = λ e. h.surname (or_false p.surname e);
-      left = λ u r. none_left p Keys.Common l refl;
-    }
+    fresh w.country w.admd w.prmd w.organization w.units w.person w.given w.initials w.generation
+    (λ g. absurd (omega arith)) w.network w.terminal w.user w.pairs (λ e. h.surname (or_false p.surname e))
+    (λ u r. none_left p Keys.Common l refl)
 fresh_more Keys.Network t v p n h f =
-    let b : p.last ≤ 11 = not_before p Keys.Network f in
+    let w = weaker p 11 n h (not_before p Keys.Network f) in
     let l : p.last < 11 = only_later p n Keys.Network h f (λ e. omega arith) (λ e. omega arith) in
-    record {
-      country = λ g. absurd (omega arith);
-      admd = λ g. absurd (omega arith);
-      prmd = λ g. absurd (omega arith);
-      organization = λ g. absurd (omega arith);
-      units = λ g. absurd (omega arith);
-      person = λ g. absurd (omega arith);
-      given = λ g. absurd (omega arith);
-      initials = λ g. absurd (omega arith);
-      generation = λ g. absurd (omega arith);
-      common = λ g. absurd (omega arith);
-      network = λ g. absurd (omega arith);
-      terminal = λ g. h.terminal (omega arith);
-      user = λ g. h.user (omega arith);
-      pairs = λ g. h.pairs (omega arith);
-      surname = λ e. h.surname (or_false p.surname e);
-      left = λ u r. none_left p Keys.Network l refl;
-    }
+    fresh w.country w.admd w.prmd w.organization w.units w.person w.given w.initials w.generation w.common
+    (λ g. absurd (omega arith)) w.terminal w.user w.pairs (λ e. h.surname (or_false p.surname e))
+    (λ u r. none_left p Keys.Network l refl)
 fresh_more Keys.Terminal t v p n h f =
-    let b : p.last ≤ 12 = not_before p Keys.Terminal f in
+    let w = weaker p 12 n h (not_before p Keys.Terminal f) in
     let l : p.last < 12 = only_later p n Keys.Terminal h f (λ e. omega arith) (λ e. omega arith) in
-    record {
-      country = λ g. absurd (omega arith);
-      admd = λ g. absurd (omega arith);
-      prmd = λ g. absurd (omega arith);
-      organization = λ g. absurd (omega arith);
-      units = λ g. absurd (omega arith);
-      person = λ g. absurd (omega arith);
-      given = λ g. absurd (omega arith);
-      initials = λ g. absurd (omega arith);
-      generation = λ g. absurd (omega arith);
-      common = λ g. absurd (omega arith);
-      network = λ g. absurd (omega arith);
-      terminal = λ g. absurd (omega arith);
-      user = λ g. h.user (omega arith);
-      pairs = λ g. h.pairs (omega arith);
-      surname = λ e. h.surname (or_false p.surname e);
-      left = λ u r. none_left p Keys.Terminal l refl;
-    }
+    fresh w.country w.admd w.prmd w.organization w.units w.person w.given w.initials w.generation w.common w.network
+    (λ g. absurd (omega arith)) w.user w.pairs (λ e. h.surname (or_false p.surname e))
+    (λ u r. none_left p Keys.Terminal l refl)
 fresh_more Keys.User t v p n h f =
-    let b : p.last ≤ 13 = not_before p Keys.User f in
+    let w = weaker p 13 n h (not_before p Keys.User f) in
     let l : p.last < 13 = only_later p n Keys.User h f (λ e. omega arith) (λ e. omega arith) in
-    record {
-      country = λ g. absurd (omega arith);
-      admd = λ g. absurd (omega arith);
-      prmd = λ g. absurd (omega arith);
-      organization = λ g. absurd (omega arith);
-      units = λ g. absurd (omega arith);
-      person = λ g. absurd (omega arith);
-      given = λ g. absurd (omega arith);
-      initials = λ g. absurd (omega arith);
-      generation = λ g. absurd (omega arith);
-      common = λ g. absurd (omega arith);
-      network = λ g. absurd (omega arith);
-      terminal = λ g. absurd (omega arith);
-      user = λ g. absurd (omega arith);
-      pairs = λ g. h.pairs (omega arith);
-      surname = λ e. h.surname (or_false p.surname e);
-      left = λ u r. none_left p Keys.User l refl;
-    }
+    fresh w.country w.admd w.prmd w.organization w.units w.person w.given w.initials w.generation w.common w.network
+    w.terminal (λ g. absurd (omega arith)) w.pairs (λ e. h.surname (or_false p.surname e))
+    (λ u r. none_left p Keys.User l refl)
 fresh_more Keys.Pair t v p n h f =
-    let b : p.last ≤ 14 = not_before p Keys.Pair f in
-    record {
-      country = λ g. absurd (omega arith);
-      admd = λ g. absurd (omega arith);
-      prmd = λ g. absurd (omega arith);
-      organization = λ g. absurd (omega arith);
-      units = λ g. absurd (omega arith);
-      person = λ g. absurd (omega arith);
-      given = λ g. absurd (omega arith);
-      initials = λ g. absurd (omega arith);
-      generation = λ g. absurd (omega arith);
-      common = λ g. absurd (omega arith);
-      network = λ g. absurd (omega arith);
-      terminal = λ g. absurd (omega arith);
-      user = λ g. absurd (omega arith);
-      pairs = λ g. absurd (omega arith);
-      surname = λ e. h.surname (or_false p.surname e);
-      left = λ u r. absurd (r refl);
-    }
+    let w = weaker p 14 n h (not_before p Keys.Pair f) in
+    fresh w.country w.admd w.prmd w.organization w.units w.person w.given w.initials w.generation w.common w.network
+    w.terminal w.user (λ g. absurd (omega arith)) (λ e. h.surname (or_false p.surname e))
+    (λ u r. absurd (r refl))
 
 -- ---- all parts
 

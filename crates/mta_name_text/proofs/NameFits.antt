@@ -10,7 +10,8 @@ use Rattle.mta_ber.specs.declared.text.TextClass.{TextClass}
 use Rattle.mta_ber.specs.declared.text.TextClass.TheVariants.{Numeric, Printable}
 use Rattle.mta_names.specs.declared.attributes.Attributes.{Attributes}
 use Rattle.mta_names.specs.declared.attributes.PersonFields.{PersonFields}
-use Rattle.mta_names.specs.Values.{Each, is_letter, is_digit, IsCountry, IsPerson, IsPair, IsName, nothing}
+use Rattle.mta_names.specs.Values.{Each, is_letter, is_digit, count_of, IsCountry, IsLabel, IsPerson, IsPair, IsExtra}
+use Rattle.mta_names.specs.Values.{IsRaw, IsName, nothing}
 use Rattle.mta_name_text.specs.declared.key.Key.{Key}
 use Rattle.mta_name_text.specs.declared.key.Key.TheVariants as Keys
 use Rattle.mta_name_text.specs.declared.part.Part.{Part}
@@ -183,104 +184,61 @@ kept_name : (p : Place) (k : Key) (n : Attributes) → Holds p n → follows Nam
     → (place_of k ≡ 14 → ⊥) → Counts (behind p k) (length n.units) (length n.pairs)
 kept_name p k n h f u r = counts_kept p (behind p k) (length n.units) (length n.pairs) h.counts (not_before p k f) u r
 
+-- a name is such part by part
+held : {p : Place} {n : Attributes} → IfSome n.country IsCountry → IfSome n.admd (IsLabel 0 16)
+    → IfSome n.network (IsText Numeric 1 16) → IfSome n.terminal (IsText Printable 1 24)
+    → IfSome n.prmd (IsLabel 1 16) → IfSome n.organization (IsText Printable 1 64)
+    → IfSome n.user (IsText Numeric 1 32) → IfSome n.person IsPerson → Each (IsText Printable 1 32) n.units
+    → length n.units ≤ 4 → Each IsPair n.pairs → length n.pairs ≤ 4
+    → IfSome n.common (IsText Printable 1 64) → Each IsExtra n.extras
+    → count_of n.common + length n.extras ≤ 256 → IfSome n.directory (IsRaw 2 0)
+    → Counts p (length n.units) (length n.pairs) → n.extras ≡ [] → Holds p n
+held country admd network terminal prmd organization user person units few_units pairs few_pairs common others few
+    directory counts extras = record {
+      name = record {
+        country = country;
+        admd = admd;
+        network = network;
+        terminal = terminal;
+        prmd = prmd;
+        organization = organization;
+        user = user;
+        person = person;
+        units = units;
+        few_units = few_units;
+        pairs = pairs;
+        few_pairs = few_pairs;
+        common = common;
+        extras = others;
+        few_extensions = few;
+        directory = directory;
+      };
+      counts = counts;
+      extras = extras;
+    }
+
 put_holds : (k : Key) (t v : List ℕ) (p : Place) (n : Attributes) → Holds p n → follows Names p k ≡ true
     → IsPart (part k t v) → Holds (behind p k) (put_at k t v n)
 put_holds Keys.Country t v p n h f i =
     let m = h.name in
-    record {
-      name = record {
-        country = country_fits v i.value;
-        admd = m.admd;
-        network = m.network;
-        terminal = m.terminal;
-        prmd = m.prmd;
-        organization = m.organization;
-        user = m.user;
-        person = m.person;
-        units = m.units;
-        few_units = m.few_units;
-        pairs = m.pairs;
-        few_pairs = m.few_pairs;
-        common = m.common;
-        extras = m.extras;
-        few_extensions = m.few_extensions;
-        directory = m.directory;
-      };
-      counts = kept_name p Keys.Country n h f (λ e. omega arith) (λ e. omega arith);
-      extras = h.extras;
-    }
+    held (country_fits v i.value) m.admd m.network m.terminal m.prmd m.organization m.user m.person m.units
+    m.few_units m.pairs m.few_pairs m.common m.extras m.few_extensions m.directory
+    (kept_name p Keys.Country n h f (λ e. omega arith) (λ e. omega arith)) h.extras
 put_holds Keys.Admd t v p n h f i =
     let m = h.name in
-    record {
-      name = record {
-        country = m.country;
-        admd = text_fits Printable 0 16 v i.value;
-        network = m.network;
-        terminal = m.terminal;
-        prmd = m.prmd;
-        organization = m.organization;
-        user = m.user;
-        person = m.person;
-        units = m.units;
-        few_units = m.few_units;
-        pairs = m.pairs;
-        few_pairs = m.few_pairs;
-        common = m.common;
-        extras = m.extras;
-        few_extensions = m.few_extensions;
-        directory = m.directory;
-      };
-      counts = kept_name p Keys.Admd n h f (λ e. omega arith) (λ e. omega arith);
-      extras = h.extras;
-    }
+    held m.country (text_fits Printable 0 16 v i.value) m.network m.terminal m.prmd m.organization m.user m.person
+    m.units m.few_units m.pairs m.few_pairs m.common m.extras m.few_extensions m.directory
+    (kept_name p Keys.Admd n h f (λ e. omega arith) (λ e. omega arith)) h.extras
 put_holds Keys.Prmd t v p n h f i =
     let m = h.name in
-    record {
-      name = record {
-        country = m.country;
-        admd = m.admd;
-        network = m.network;
-        terminal = m.terminal;
-        prmd = text_fits Printable 1 16 v i.value;
-        organization = m.organization;
-        user = m.user;
-        person = m.person;
-        units = m.units;
-        few_units = m.few_units;
-        pairs = m.pairs;
-        few_pairs = m.few_pairs;
-        common = m.common;
-        extras = m.extras;
-        few_extensions = m.few_extensions;
-        directory = m.directory;
-      };
-      counts = kept_name p Keys.Prmd n h f (λ e. omega arith) (λ e. omega arith);
-      extras = h.extras;
-    }
+    held m.country m.admd m.network m.terminal (text_fits Printable 1 16 v i.value) m.organization m.user m.person
+    m.units m.few_units m.pairs m.few_pairs m.common m.extras m.few_extensions m.directory
+    (kept_name p Keys.Prmd n h f (λ e. omega arith) (λ e. omega arith)) h.extras
 put_holds Keys.Organization t v p n h f i =
     let m = h.name in
-    record {
-      name = record {
-        country = m.country;
-        admd = m.admd;
-        network = m.network;
-        terminal = m.terminal;
-        prmd = m.prmd;
-        organization = text_fits Printable 1 64 v i.value;
-        user = m.user;
-        person = m.person;
-        units = m.units;
-        few_units = m.few_units;
-        pairs = m.pairs;
-        few_pairs = m.few_pairs;
-        common = m.common;
-        extras = m.extras;
-        few_extensions = m.few_extensions;
-        directory = m.directory;
-      };
-      counts = kept_name p Keys.Organization n h f (λ e. omega arith) (λ e. omega arith);
-      extras = h.extras;
-    }
+    held m.country m.admd m.network m.terminal m.prmd (text_fits Printable 1 64 v i.value) m.user m.person m.units
+    m.few_units m.pairs m.few_pairs m.common m.extras m.few_extensions m.directory
+    (kept_name p Keys.Organization n h f (λ e. omega arith) (λ e. omega arith)) h.extras
 put_holds Keys.Unit t v p n h f i =
     let m = h.name in
     let e = length_more n.units v in
@@ -288,221 +246,54 @@ put_holds Keys.Unit t v p n h f i =
     subst (λ u. Counts (behind p Keys.Unit) u (length n.pairs)) (sym e)
     (one_unit p (length n.units) (length n.pairs) h.counts f) in
     let few = c.few_units in
-    record {
-      name = record {
-        country = m.country;
-        admd = m.admd;
-        network = m.network;
-        terminal = m.terminal;
-        prmd = m.prmd;
-        organization = m.organization;
-        user = m.user;
-        person = m.person;
-        units = each_more (IsText Printable 1 32) n.units v m.units (text_fits Printable 1 32 v i.value);
-        few_units = few;
-        pairs = m.pairs;
-        few_pairs = m.few_pairs;
-        common = m.common;
-        extras = m.extras;
-        few_extensions = m.few_extensions;
-        directory = m.directory;
-      };
-      counts = c;
-      extras = h.extras;
-    }
+    held m.country m.admd m.network m.terminal m.prmd m.organization m.user m.person
+    (each_more (IsText Printable 1 32) n.units v m.units (text_fits Printable 1 32 v i.value)) few m.pairs
+    m.few_pairs m.common m.extras m.few_extensions m.directory c h.extras
 put_holds Keys.Surname t v p n h f i =
     let m = h.name in
-    record {
-      name = record {
-        country = m.country;
-        admd = m.admd;
-        network = m.network;
-        terminal = m.terminal;
-        prmd = m.prmd;
-        organization = m.organization;
-        user = m.user;
-        person = record { surname = text_fits Printable 1 40 v i.value; given = tt; initials = tt; generation = tt };
-        units = m.units;
-        few_units = m.few_units;
-        pairs = m.pairs;
-        few_pairs = m.few_pairs;
-        common = m.common;
-        extras = m.extras;
-        few_extensions = m.few_extensions;
-        directory = m.directory;
-      };
-      counts = kept_name p Keys.Surname n h f (λ e. omega arith) (λ e. omega arith);
-      extras = h.extras;
-    }
+    held m.country m.admd m.network m.terminal m.prmd m.organization m.user
+    (record { surname = text_fits Printable 1 40 v i.value; given = tt; initials = tt; generation = tt }) m.units
+    m.few_units m.pairs m.few_pairs m.common m.extras m.few_extensions m.directory
+    (kept_name p Keys.Surname n h f (λ e. omega arith) (λ e. omega arith)) h.extras
 put_holds Keys.Given t v p n h f i =
     let m = h.name in
-    record {
-      name = record {
-        country = m.country;
-        admd = m.admd;
-        network = m.network;
-        terminal = m.terminal;
-        prmd = m.prmd;
-        organization = m.organization;
-        user = m.user;
-        person = given_fits v n.person m.person (text_fits Printable 1 16 v i.value);
-        units = m.units;
-        few_units = m.few_units;
-        pairs = m.pairs;
-        few_pairs = m.few_pairs;
-        common = m.common;
-        extras = m.extras;
-        few_extensions = m.few_extensions;
-        directory = m.directory;
-      };
-      counts = kept_name p Keys.Given n h f (λ e. omega arith) (λ e. omega arith);
-      extras = h.extras;
-    }
+    held m.country m.admd m.network m.terminal m.prmd m.organization m.user
+    (given_fits v n.person m.person (text_fits Printable 1 16 v i.value)) m.units m.few_units m.pairs m.few_pairs
+    m.common m.extras m.few_extensions m.directory
+    (kept_name p Keys.Given n h f (λ e. omega arith) (λ e. omega arith)) h.extras
 put_holds Keys.Initials t v p n h f i =
     let m = h.name in
-    record {
-      name = record {
-        country = m.country;
-        admd = m.admd;
-        network = m.network;
-        terminal = m.terminal;
-        prmd = m.prmd;
-        organization = m.organization;
-        user = m.user;
-        person = initials_fit v n.person m.person (text_fits Printable 1 5 v i.value);
-        units = m.units;
-        few_units = m.few_units;
-        pairs = m.pairs;
-        few_pairs = m.few_pairs;
-        common = m.common;
-        extras = m.extras;
-        few_extensions = m.few_extensions;
-        directory = m.directory;
-      };
-      counts = kept_name p Keys.Initials n h f (λ e. omega arith) (λ e. omega arith);
-      extras = h.extras;
-    }
+    held m.country m.admd m.network m.terminal m.prmd m.organization m.user
+    (initials_fit v n.person m.person (text_fits Printable 1 5 v i.value)) m.units m.few_units m.pairs m.few_pairs
+    m.common m.extras m.few_extensions m.directory
+    (kept_name p Keys.Initials n h f (λ e. omega arith) (λ e. omega arith)) h.extras
 put_holds Keys.Generation t v p n h f i =
     let m = h.name in
-    record {
-      name = record {
-        country = m.country;
-        admd = m.admd;
-        network = m.network;
-        terminal = m.terminal;
-        prmd = m.prmd;
-        organization = m.organization;
-        user = m.user;
-        person = generation_fits v n.person m.person (text_fits Printable 1 3 v i.value);
-        units = m.units;
-        few_units = m.few_units;
-        pairs = m.pairs;
-        few_pairs = m.few_pairs;
-        common = m.common;
-        extras = m.extras;
-        few_extensions = m.few_extensions;
-        directory = m.directory;
-      };
-      counts = kept_name p Keys.Generation n h f (λ e. omega arith) (λ e. omega arith);
-      extras = h.extras;
-    }
+    held m.country m.admd m.network m.terminal m.prmd m.organization m.user
+    (generation_fits v n.person m.person (text_fits Printable 1 3 v i.value)) m.units m.few_units m.pairs
+    m.few_pairs m.common m.extras m.few_extensions m.directory
+    (kept_name p Keys.Generation n h f (λ e. omega arith) (λ e. omega arith)) h.extras
 put_holds Keys.Common t v p n h f i =
     let m = h.name in
     let none = no_extensions n h.extras in
-    record {
-      name = record {
-        country = m.country;
-        admd = m.admd;
-        network = m.network;
-        terminal = m.terminal;
-        prmd = m.prmd;
-        organization = m.organization;
-        user = m.user;
-        person = m.person;
-        units = m.units;
-        few_units = m.few_units;
-        pairs = m.pairs;
-        few_pairs = m.few_pairs;
-        common = text_fits Printable 1 64 v i.value;
-        extras = m.extras;
-        few_extensions = none;
-        directory = m.directory;
-      };
-      counts = kept_name p Keys.Common n h f (λ e. omega arith) (λ e. omega arith);
-      extras = h.extras;
-    }
+    held m.country m.admd m.network m.terminal m.prmd m.organization m.user m.person m.units m.few_units m.pairs
+    m.few_pairs (text_fits Printable 1 64 v i.value) m.extras none m.directory
+    (kept_name p Keys.Common n h f (λ e. omega arith) (λ e. omega arith)) h.extras
 put_holds Keys.Network t v p n h f i =
     let m = h.name in
-    record {
-      name = record {
-        country = m.country;
-        admd = m.admd;
-        network = text_fits Numeric 1 16 v i.value;
-        terminal = m.terminal;
-        prmd = m.prmd;
-        organization = m.organization;
-        user = m.user;
-        person = m.person;
-        units = m.units;
-        few_units = m.few_units;
-        pairs = m.pairs;
-        few_pairs = m.few_pairs;
-        common = m.common;
-        extras = m.extras;
-        few_extensions = m.few_extensions;
-        directory = m.directory;
-      };
-      counts = kept_name p Keys.Network n h f (λ e. omega arith) (λ e. omega arith);
-      extras = h.extras;
-    }
+    held m.country m.admd (text_fits Numeric 1 16 v i.value) m.terminal m.prmd m.organization m.user m.person
+    m.units m.few_units m.pairs m.few_pairs m.common m.extras m.few_extensions m.directory
+    (kept_name p Keys.Network n h f (λ e. omega arith) (λ e. omega arith)) h.extras
 put_holds Keys.Terminal t v p n h f i =
     let m = h.name in
-    record {
-      name = record {
-        country = m.country;
-        admd = m.admd;
-        network = m.network;
-        terminal = text_fits Printable 1 24 v i.value;
-        prmd = m.prmd;
-        organization = m.organization;
-        user = m.user;
-        person = m.person;
-        units = m.units;
-        few_units = m.few_units;
-        pairs = m.pairs;
-        few_pairs = m.few_pairs;
-        common = m.common;
-        extras = m.extras;
-        few_extensions = m.few_extensions;
-        directory = m.directory;
-      };
-      counts = kept_name p Keys.Terminal n h f (λ e. omega arith) (λ e. omega arith);
-      extras = h.extras;
-    }
+    held m.country m.admd m.network (text_fits Printable 1 24 v i.value) m.prmd m.organization m.user m.person
+    m.units m.few_units m.pairs m.few_pairs m.common m.extras m.few_extensions m.directory
+    (kept_name p Keys.Terminal n h f (λ e. omega arith) (λ e. omega arith)) h.extras
 put_holds Keys.User t v p n h f i =
     let m = h.name in
-    record {
-      name = record {
-        country = m.country;
-        admd = m.admd;
-        network = m.network;
-        terminal = m.terminal;
-        prmd = m.prmd;
-        organization = m.organization;
-        user = text_fits Numeric 1 32 v i.value;
-        person = m.person;
-        units = m.units;
-        few_units = m.few_units;
-        pairs = m.pairs;
-        few_pairs = m.few_pairs;
-        common = m.common;
-        extras = m.extras;
-        few_extensions = m.few_extensions;
-        directory = m.directory;
-      };
-      counts = kept_name p Keys.User n h f (λ e. omega arith) (λ e. omega arith);
-      extras = h.extras;
-    }
+    held m.country m.admd m.network m.terminal m.prmd m.organization (text_fits Numeric 1 32 v i.value) m.person
+    m.units m.few_units m.pairs m.few_pairs m.common m.extras m.few_extensions m.directory
+    (kept_name p Keys.User n h f (λ e. omega arith) (λ e. omega arith)) h.extras
 put_holds Keys.Pair t v p n h f i =
     let m = h.name in
     let e = length_more n.pairs (pair_of t v) in
@@ -510,29 +301,10 @@ put_holds Keys.Pair t v p n h f i =
     subst (λ r. Counts (behind p Keys.Pair) (length n.units) r) (sym e)
     (one_pair p (length n.units) (length n.pairs) h.counts f) in
     let few = c.few_pairs in
-    record {
-      name = record {
-        country = m.country;
-        admd = m.admd;
-        network = m.network;
-        terminal = m.terminal;
-        prmd = m.prmd;
-        organization = m.organization;
-        user = m.user;
-        person = m.person;
-        units = m.units;
-        few_units = m.few_units;
-        pairs = each_more IsPair n.pairs (pair_of t v) m.pairs
-            (record { kind = kind_fits t i.kind; value = text_fits Printable 1 128 v i.value });
-        few_pairs = few;
-        common = m.common;
-        extras = m.extras;
-        few_extensions = m.few_extensions;
-        directory = m.directory;
-      };
-      counts = c;
-      extras = h.extras;
-    }
+    held m.country m.admd m.network m.terminal m.prmd m.organization m.user m.person m.units m.few_units
+    (each_more IsPair n.pairs (pair_of t v) m.pairs
+    (record { kind = kind_fits t i.kind; value = text_fits Printable 1 128 v i.value }))
+    few m.common m.extras m.few_extensions m.directory c h.extras
 
 all_hold : (xs : List Part) (p q : Place) (n : Attributes) → Holds p n → Follow Names p xs q → IsName (put_all n xs)
 all_hold [] p q n h f = h.name

@@ -194,190 +194,80 @@ none_else n m h a b c d = record {
   no_directory = d ∙ h.no_directory;
 }
 
+-- a name is such where each of its components is, and nothing else is there
+stood : {n : Attributes} → IfSome n.country IsCountry → IfSome n.admd (IsLabel 0 16)
+    → IfSome n.network (IsText Numeric 1 16) → IfSome n.terminal (IsText Printable 1 24)
+    → IfSome n.prmd (IsLabel 1 16) → IfSome n.organization (IsText Printable 1 64)
+    → IfSome n.user (IsText Numeric 1 32) → IfSome n.person IsPerson → Each (IsText Printable 1 32) n.units
+    → length n.units ≤ 4 → Alone n → Stood n
+stood country admd network terminal prmd organization user person units few_units alone = record {
+  parts = record {
+    country = country;
+    admd = admd;
+    network = network;
+    terminal = terminal;
+    prmd = prmd;
+    organization = organization;
+    user = user;
+    person = person;
+    units = units;
+    few_units = few_units;
+  };
+  alone = alone;
+}
+
 keeps_part : (k : StandardPart) (depth : ℕ) (n : Attributes) (tag : Tag) (content : List ℕ) (t : StandardParts)
     → MakesStandardPart k depth n tag content t → Stood n → Stood t.attributes
 keeps_part Country depth n tag content t m k =
     let h = k.parts in
     let w = label_fits IsCountry depth tag.constructed content m.value m.value_spelled in
     subst (λ (s : StandardParts). Stood s.attributes) (sym m.after_is)
-    (record {
-      parts = record {
-        country = w;
-        admd = h.admd;
-        network = h.network;
-        terminal = h.terminal;
-        prmd =
-            h.prmd;
-        organization = h.organization;
-        user = h.user;
-        person = h.person;
-        units = h.units;
-        few_units =
-            h.few_units;
-      };
-      alone = none_else n (with_country n m.value).attributes k.alone refl refl refl refl;
-    })
+    (stood w h.admd h.network h.terminal h.prmd h.organization h.user h.person h.units h.few_units
+    (none_else n (with_country n m.value).attributes k.alone refl refl refl refl))
 keeps_part Admd depth n tag content t m k =
     let h = k.parts in
     let w = label_fits (IsLabel 0 16) depth tag.constructed content m.value m.value_spelled in
     subst (λ (s : StandardParts). Stood s.attributes) (sym m.after_is)
-    (record {
-      parts = record {
-        country = h.country;
-        admd = w;
-        network = h.network;
-        terminal = h.terminal;
-        prmd =
-            h.prmd;
-        organization = h.organization;
-        user = h.user;
-        person = h.person;
-        units = h.units;
-        few_units =
-            h.few_units;
-      };
-      alone = none_else n (with_admd n m.value).attributes k.alone refl refl refl refl;
-    })
+    (stood h.country w h.network h.terminal h.prmd h.organization h.user h.person h.units h.few_units
+    (none_else n (with_admd n m.value).attributes k.alone refl refl refl refl))
 keeps_part Network depth n tag content t m k =
     let h = k.parts in
     subst (λ (s : StandardParts). Stood s.attributes) (sym m.after_is)
-    (record {
-      parts = record {
-        country = h.country;
-        admd = h.admd;
-        network = m.value_spelled.is_text;
-        terminal =
-            h.terminal;
-        prmd = h.prmd;
-        organization = h.organization;
-        user = h.user;
-        person = h.person;
-        units = h.units;
-        few_units = h.few_units;
-      };
-      alone =
-          none_else n (with_network n m.value).attributes k.alone refl refl refl refl;
-    })
+    (stood h.country h.admd m.value_spelled.is_text h.terminal h.prmd h.organization h.user h.person h.units
+    h.few_units (none_else n (with_network n m.value).attributes k.alone refl refl refl refl))
 keeps_part Terminal depth n tag content t m k =
     let h = k.parts in
     subst (λ (s : StandardParts). Stood s.attributes) (sym m.after_is)
-    (record {
-      parts = record {
-        country = h.country;
-        admd = h.admd;
-        network = h.network;
-        terminal =
-            m.value_spelled.is_text;
-        prmd = h.prmd;
-        organization = h.organization;
-        user = h.user;
-        person = h.person;
-        units =
-            h.units;
-        few_units = h.few_units;
-      };
-      alone =
-          none_else n (with_terminal n m.value).attributes k.alone refl refl refl refl;
-    })
+    (stood h.country h.admd h.network m.value_spelled.is_text h.prmd h.organization h.user h.person h.units
+    h.few_units (none_else n (with_terminal n m.value).attributes k.alone refl refl refl refl))
 keeps_part Prmd depth n tag content t m k =
     let h = k.parts in
     let w = label_fits (IsLabel 1 16) depth tag.constructed content m.value m.value_spelled in
     subst (λ (s : StandardParts). Stood s.attributes) (sym m.after_is)
-    (record {
-      parts = record {
-        country = h.country;
-        admd = h.admd;
-        network = h.network;
-        terminal = h.terminal;
-        prmd = w;
-        organization = h.organization;
-        user = h.user;
-        person = h.person;
-        units = h.units;
-        few_units =
-            h.few_units;
-      };
-      alone = none_else n (with_prmd n m.value).attributes k.alone refl refl refl refl;
-    })
+    (stood h.country h.admd h.network h.terminal w h.organization h.user h.person h.units h.few_units
+    (none_else n (with_prmd n m.value).attributes k.alone refl refl refl refl))
 keeps_part Organization depth n tag content t m k =
     let h = k.parts in
     subst (λ (s : StandardParts). Stood s.attributes) (sym m.after_is)
-    (record {
-      parts = record {
-        country = h.country;
-        admd = h.admd;
-        network = h.network;
-        terminal = h.terminal;
-        prmd = h.prmd;
-        organization = m.value_spelled.is_text;
-        user = h.user;
-        person = h.person;
-        units = h.units;
-        few_units = h.few_units;
-      };
-      alone =
-          none_else n (with_organization n m.value).attributes k.alone refl refl refl refl;
-    })
+    (stood h.country h.admd h.network h.terminal h.prmd m.value_spelled.is_text h.user h.person h.units h.few_units
+    (none_else n (with_organization n m.value).attributes k.alone refl refl refl refl))
 keeps_part User depth n tag content t m k =
     let h = k.parts in
     subst (λ (s : StandardParts). Stood s.attributes) (sym m.after_is)
-    (record {
-      parts = record {
-        country = h.country;
-        admd = h.admd;
-        network = h.network;
-        terminal = h.terminal;
-        prmd = h.prmd;
-        organization = h.organization;
-        user = m.value_spelled.is_text;
-        person = h.person;
-        units =
-            h.units;
-        few_units = h.few_units;
-      };
-      alone =
-          none_else n (with_user n m.value).attributes k.alone refl refl refl refl;
-    })
+    (stood h.country h.admd h.network h.terminal h.prmd h.organization m.value_spelled.is_text h.person h.units
+    h.few_units (none_else n (with_user n m.value).attributes k.alone refl refl refl refl))
 keeps_part Name depth n tag content t m k =
     let h = k.parts in
     let w = person_is depth tag.constructed content m.value m.value_spelled in
     subst (λ (s : StandardParts). Stood s.attributes) (sym m.after_is)
-    (record {
-      parts = record {
-        country = h.country;
-        admd = h.admd;
-        network = h.network;
-        terminal = h.terminal;
-        prmd = h.prmd;
-        organization = h.organization;
-        user = h.user;
-        person = w;
-        units = h.units;
-        few_units =
-            h.few_units;
-      };
-      alone = none_else n (with_person n m.value).attributes k.alone refl refl refl refl;
-    })
+    (stood h.country h.admd h.network h.terminal h.prmd h.organization h.user w h.units h.few_units
+    (none_else n (with_person n m.value).attributes k.alone refl refl refl refl))
 keeps_part Units depth n tag content t m k =
     let h = k.parts in
     let w = units_are depth tag.constructed content m.value m.value_spelled in
     subst (λ (s : StandardParts). Stood s.attributes) (sym m.after_is)
-    (record {
-      parts = record {
-        country = h.country;
-        admd = h.admd;
-        network = h.network;
-        terminal = h.terminal;
-        prmd = h.prmd;
-        organization = h.organization;
-        user = h.user;
-        person = h.person;
-        units = w;
-        few_units =
-            m.value_spelled.at_most;
-      };
-      alone = none_else n (with_units n m.value).attributes k.alone refl refl refl refl;
-    })
+    (stood h.country h.admd h.network h.terminal h.prmd h.organization h.user h.person w m.value_spelled.at_most
+    (none_else n (with_units n m.value).attributes k.alone refl refl refl refl))
 
 keeps : Keeps MakesStandard (λ s. Stood s.attributes)
 keeps depth s t tag content octets stands m k = keeps_part m.part depth s.attributes tag content t m.made k

@@ -189,121 +189,62 @@ pub record ContentHolds (s : ContentParts) : Type 0 where
   pub returned : IfSome s.returned (IsRaw 2 1)
   pub additional : IfSome s.additional (IsRaw 2 2)
 
+-- the components are such where each of them is
+holds_content : {s : ContentParts} → IfSome s.eits (IsRaw 1 5) → IfSome s.content_kind IsContentKind
+    → IfSome s.subject_trace (IsRaw 1 9) → IfSome s.content_id IsContentId → IfSome s.recipients IsReportedRow
+    → IfSome s.returned (IsRaw 2 1) → IfSome s.additional (IsRaw 2 2) → ContentHolds s
+holds_content eits content_kind subject_trace content_id recipients returned additional =
+    record {
+      eits = eits;
+      content_kind = content_kind;
+      subject_trace = subject_trace;
+      content_id = content_id;
+      recipients = recipients;
+      returned = returned;
+      additional = additional;
+    }
+
 keeps_part : (k : ContentPart) (depth : ℕ) (s t : ContentParts) (tag : Tag) (content octets : List ℕ) → HasTag tag k
     → Stands depth tag content octets → MakesContentPart k depth s tag content octets t → ContentHolds s
     → ContentHolds t
 keeps_part Subject depth s t tag content octets is stands m h =
     subst ContentHolds (sym m.after_is)
-    (record {
-      eits = h.eits;
-      content_kind = h.content_kind;
-      subject_trace = h.subject_trace;
-      content_id = h.content_id;
-      recipients = h.recipients;
-      returned = h.returned;
-      additional = h.additional;
-    })
+    (holds_content h.eits h.content_kind h.subject_trace h.content_id h.recipients h.returned h.additional)
 keeps_part Eits depth s t tag content octets is stands m h =
     (let w : (IsRaw 1 5) m.value = subst (IsRaw 1 5) (sym m.value_spelled)
     (record { depth = depth; tag = tag; content = content; is_tag_of = is; stands = stands }) in
     subst ContentHolds (sym m.after_is)
-    (record {
-      eits = w;
-      content_kind = h.content_kind;
-      subject_trace = h.subject_trace;
-      content_id = h.content_id;
-      recipients = h.recipients;
-      returned = h.returned;
-      additional = h.additional;
-    }))
+    (holds_content w h.content_kind h.subject_trace h.content_id h.recipients h.returned h.additional))
 keeps_part ContentType depth s t tag content octets is stands m h =
     (let w : IsContentKind m.value = kind_is depth tag content octets m.value m.value_spelled in
     subst ContentHolds (sym m.after_is)
-    (record {
-      eits = h.eits;
-      content_kind = w;
-      subject_trace = h.subject_trace;
-      content_id = h.content_id;
-      recipients =
-          h.recipients;
-      returned = h.returned;
-      additional = h.additional;
-    }))
+    (holds_content h.eits w h.subject_trace h.content_id h.recipients h.returned h.additional))
 keeps_part SubjectTrace depth s t tag content octets is stands m h =
     (let w : (IsRaw 1 9) m.value = subst (IsRaw 1 9) (sym m.value_spelled)
     (record { depth = depth; tag = tag; content = content; is_tag_of = is; stands = stands }) in
     subst ContentHolds (sym m.after_is)
-    (record {
-      eits = h.eits;
-      content_kind = h.content_kind;
-      subject_trace = w;
-      content_id = h.content_id;
-      recipients =
-          h.recipients;
-      returned = h.returned;
-      additional = h.additional;
-    }))
+    (holds_content h.eits h.content_kind w h.content_id h.recipients h.returned h.additional))
 keeps_part ContentId depth s t tag content octets is stands m h =
     (let w : IsContentId m.value = m.value_spelled.is_text in
     subst ContentHolds (sym m.after_is)
-    (record {
-      eits = h.eits;
-      content_kind = h.content_kind;
-      subject_trace = h.subject_trace;
-      content_id = w;
-      recipients = h.recipients;
-      returned = h.returned;
-      additional = h.additional;
-    }))
+    (holds_content h.eits h.content_kind h.subject_trace w h.recipients h.returned h.additional))
 keeps_part Recipients depth s t tag content octets is stands m h =
     (let w : IsReportedRow m.value = record { some = m.value_spelled.at_least; few = m.value_spelled.at_most } in
     subst ContentHolds (sym m.after_is)
-    (record {
-      eits = h.eits;
-      content_kind = h.content_kind;
-      subject_trace = h.subject_trace;
-      content_id = h.content_id;
-      recipients = w;
-      returned = h.returned;
-      additional = h.additional;
-    }))
+    (holds_content h.eits h.content_kind h.subject_trace h.content_id w h.returned h.additional))
 keeps_part Returned depth s t tag content octets is stands m h =
     (let w : (IsRaw 2 1) m.value = subst (IsRaw 2 1) (sym m.value_spelled)
     (record { depth = depth; tag = tag; content = content; is_tag_of = is; stands = stands }) in
     subst ContentHolds (sym m.after_is)
-    (record {
-      eits = h.eits;
-      content_kind = h.content_kind;
-      subject_trace = h.subject_trace;
-      content_id = h.content_id;
-      recipients = h.recipients;
-      returned = w;
-      additional = h.additional;
-    }))
+    (holds_content h.eits h.content_kind h.subject_trace h.content_id h.recipients w h.additional))
 keeps_part Additional depth s t tag content octets is stands m h =
     (let w : (IsRaw 2 2) m.value = subst (IsRaw 2 2) (sym m.value_spelled)
     (record { depth = depth; tag = tag; content = content; is_tag_of = is; stands = stands }) in
     subst ContentHolds (sym m.after_is)
-    (record {
-      eits = h.eits;
-      content_kind = h.content_kind;
-      subject_trace = h.subject_trace;
-      content_id = h.content_id;
-      recipients = h.recipients;
-      returned = h.returned;
-      additional = w;
-    }))
+    (holds_content h.eits h.content_kind h.subject_trace h.content_id h.recipients h.returned w))
 keeps_part Extensions depth s t tag content octets is stands m h =
     subst ContentHolds (sym m.after_is)
-    (record {
-      eits = h.eits;
-      content_kind = h.content_kind;
-      subject_trace = h.subject_trace;
-      content_id = h.content_id;
-      recipients = h.recipients;
-      returned = h.returned;
-      additional = h.additional;
-    })
+    (holds_content h.eits h.content_kind h.subject_trace h.content_id h.recipients h.returned h.additional)
 
 keeps : Keeps MakesContent ContentHolds
 keeps depth s t tag content octets stands m h =

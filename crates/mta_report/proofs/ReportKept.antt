@@ -135,6 +135,23 @@ record ContentHolds (depth : ℕ) (s : ContentParts) : Type 0 where
   additional : IfSome s.additional (IsRawAt depth 2 2)
   extensions : IfSome s.extensions (AreKeptFields (depth + 1))
 
+-- what the parts of a content keep, one of them behind another
+holds_content : {depth : ℕ} {s : ContentParts} → IfSome s.subject IsWholeId
+    → IfSome s.eits (IsRawAt depth 1 5) → IfSome s.subject_trace (IsRawAt depth 1 9)
+    → IfSome s.recipients (AreKeptRecipients (depth + 1)) → IfSome s.returned (IsRawAt depth 2 1)
+    → IfSome s.additional (IsRawAt depth 2 2) → IfSome s.extensions (AreKeptFields (depth + 1))
+    → ContentHolds depth s
+holds_content subject eits subject_trace recipients returned additional extensions =
+    record {
+      subject = subject;
+      eits = eits;
+      subject_trace = subject_trace;
+      recipients = recipients;
+      returned = returned;
+      additional = additional;
+      extensions = extensions;
+    }
+
 raw_is : (depth class number : ℕ) (tag : Tag) (content octets x : List ℕ) → is_tag class number tag ≡ true
     → Stands depth tag content octets → x ≡ octets → IsRawAt depth class number x
 raw_is depth class number tag content octets x is stands e =
@@ -146,110 +163,39 @@ content_part : (k : ContentPart) (depth : ℕ) (s t : ContentParts) (tag : Tag) 
     → ContentHolds depth s → ContentHolds depth t
 content_part contents.Subject depth s t tag content octets d is stands m h =
     subst (ContentHolds depth) (sym m.after_is)
-    (record {
-      subject = identifier_whole depth tag content m.value m.value_spelled;
-      eits = h.eits;
-      subject_trace =
-          h.subject_trace;
-      recipients = h.recipients;
-      returned = h.returned;
-      additional = h.additional;
-      extensions =
-          h.extensions;
-    })
+    (holds_content (identifier_whole depth tag content m.value m.value_spelled) h.eits h.subject_trace h.recipients
+    h.returned h.additional h.extensions)
 content_part contents.Eits depth s t tag content octets d is stands m h =
     subst (ContentHolds depth) (sym m.after_is)
-    (record {
-      subject = h.subject;
-      eits = raw_is depth 1 5 tag content octets m.value is stands m.value_spelled;
-      subject_trace = h.subject_trace;
-      recipients = h.recipients;
-      returned = h.returned;
-      additional = h.additional;
-      extensions = h.extensions;
-    })
+    (holds_content h.subject (raw_is depth 1 5 tag content octets m.value is stands m.value_spelled) h.subject_trace
+    h.recipients h.returned h.additional h.extensions)
 content_part contents.ContentType depth s t tag content octets d is stands m h =
     subst (ContentHolds depth) (sym m.after_is)
-    (record {
-      subject = h.subject;
-      eits = h.eits;
-      subject_trace = h.subject_trace;
-      recipients = h.recipients;
-      returned = h.returned;
-      additional = h.additional;
-      extensions = h.extensions;
-    })
+    (holds_content h.subject h.eits h.subject_trace h.recipients h.returned h.additional h.extensions)
 content_part contents.SubjectTrace depth s t tag content octets d is stands m h =
     subst (ContentHolds depth) (sym m.after_is)
-    (record {
-      subject = h.subject;
-      eits = h.eits;
-      subject_trace =
-          raw_is depth 1 9 tag content octets m.value is stands m.value_spelled;
-      recipients = h.recipients;
-      returned =
-          h.returned;
-      additional = h.additional;
-      extensions = h.extensions;
-    })
+    (holds_content h.subject h.eits (raw_is depth 1 9 tag content octets m.value is stands m.value_spelled)
+    h.recipients h.returned h.additional h.extensions)
 content_part contents.ContentId depth s t tag content octets d is stands m h =
     subst (ContentHolds depth) (sym m.after_is)
-    (record {
-      subject = h.subject;
-      eits = h.eits;
-      subject_trace = h.subject_trace;
-      recipients = h.recipients;
-      returned = h.returned;
-      additional = h.additional;
-      extensions = h.extensions;
-    })
+    (holds_content h.subject h.eits h.subject_trace h.recipients h.returned h.additional h.extensions)
 content_part contents.Recipients depth s t tag content octets d is stands m h =
     subst (ContentHolds depth) (sym m.after_is)
-    (record {
-      subject = h.subject;
-      eits = h.eits;
-      subject_trace = h.subject_trace;
-      recipients =
-          reported_list_kept depth tag.constructed content m.value m.value_spelled d;
-      returned = h.returned;
-      additional =
-          h.additional;
-      extensions = h.extensions;
-    })
+    (holds_content h.subject h.eits h.subject_trace
+    (reported_list_kept depth tag.constructed content m.value m.value_spelled d) h.returned h.additional
+    h.extensions)
 content_part contents.Returned depth s t tag content octets d is stands m h =
     subst (ContentHolds depth) (sym m.after_is)
-    (record {
-      subject = h.subject;
-      eits = h.eits;
-      subject_trace = h.subject_trace;
-      recipients = h.recipients;
-      returned = raw_is depth 2 1 tag content octets m.value is stands m.value_spelled;
-      additional = h.additional;
-      extensions = h.extensions;
-    })
+    (holds_content h.subject h.eits h.subject_trace h.recipients
+    (raw_is depth 2 1 tag content octets m.value is stands m.value_spelled) h.additional h.extensions)
 content_part contents.Additional depth s t tag content octets d is stands m h =
     subst (ContentHolds depth) (sym m.after_is)
-    (record {
-      subject = h.subject;
-      eits = h.eits;
-      subject_trace = h.subject_trace;
-      recipients = h.recipients;
-      returned = h.returned;
-      additional = raw_is depth 2 2 tag content octets m.value is stands m.value_spelled;
-      extensions = h.extensions;
-    })
+    (holds_content h.subject h.eits h.subject_trace h.recipients h.returned
+    (raw_is depth 2 2 tag content octets m.value is stands m.value_spelled) h.extensions)
 content_part contents.Extensions depth s t tag content octets d is stands m h =
     subst (ContentHolds depth) (sym m.after_is)
-    (record {
-      subject = h.subject;
-      eits = h.eits;
-      subject_trace = h.subject_trace;
-      recipients = h.recipients;
-      returned = h.returned;
-      additional = h.additional;
-      extensions =
-          ext_list_kept depth tag.constructed content m.value m.value_spelled (omega arith);
-    })
+    (holds_content h.subject h.eits h.subject_trace h.recipients h.returned h.additional
+    (ext_list_kept depth tag.constructed content m.value m.value_spelled (omega arith)))
 
 content_more : (depth : ℕ) → depth + 5 ≤ 16 → KeepsAt MakesContent (ContentHolds depth) depth
 content_more depth d s t tag content octets stands m h =

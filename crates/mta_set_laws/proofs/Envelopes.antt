@@ -1,5 +1,5 @@
 -- Components of the envelopes of messages and probes that are neighbours may change places.
-use Rattle.std.proofs.Common.{◌≡◌, ℕ, true, List, refl, ◌∙◌, sym, ap, subst}
+use Rattle.std.proofs.Common.{◌≡◌, ℕ, true, List, refl, sym, ap, subst}
 use Rattle.mta_ber.specs.declared.tag.Tag.{Tag}
 use Rattle.mta_ber.specs.Bits.{BitString}
 use Rattle.mta_names.specs.declared.attributes.Attributes.{Attributes}
@@ -20,7 +20,7 @@ use Rattle.mta_envelope.specs.Components.{with_content_id, with_content_kind, wi
 use Rattle.mta_envelope.specs.Components.{with_id, with_indicators, with_length, with_originator, with_priority}
 use Rattle.mta_envelope.specs.Components.{with_recipients, with_trace}
 use Rattle.mta_set_laws.specs.Orders.{ChangePlaces}
-use Rattle.mta_set_laws.proofs.Slots.{Field, moved_field, twice_in_field}
+use Rattle.mta_set_laws.proofs.Slots.{Field, passes, twice_in_field}
 
 abbrev originator_slot : Field EnvelopeParts Attributes
 originator_slot = record { put = with_originator; get = λ s. s.originator }
@@ -61,345 +61,294 @@ recipients_slot = record { put = with_recipients; get = λ s. s.recipients }
 abbrev extensions_slot : Field EnvelopeParts Extensions
 extensions_slot = record { put = with_extensions; get = λ s. s.extensions }
 
-swapped : (j k : EnvelopePart) (depth : ℕ) (s t u : EnvelopeParts) (tag : Tag) (content octets : List ℕ) (tag' : Tag)
-    (content' octets' : List ℕ)
-    → MakesEnvelopePart j depth s tag content octets t → MakesEnvelopePart k depth t tag' content' octets' u
-    → (between : EnvelopeParts) × MakesEnvelopePart k depth s tag' content' octets' between
-    × MakesEnvelopePart j depth between tag content octets u
-swapped Originator Originator depth s t u g c o g' c' o' m n =
-    absurd (twice_in_field originator_slot (λ s x. refl) s t u m n)
-swapped Originator Identifier depth s t u g c o g' c' o' m n =
-    moved_field originator_slot id_slot ((λ s x. refl), (λ s y. refl), (λ s x y. refl)) s t u m n
-swapped Originator InformationTypes depth s t u g c o g' c' o' m n =
-    moved_field originator_slot eits_slot ((λ s x. refl), (λ s y. refl), (λ s x y. refl)) s t u m n
-swapped Originator ContentType depth s t u g c o g' c' o' m n =
-    moved_field originator_slot content_kind_slot ((λ s x. refl), (λ s y. refl), (λ s x y. refl)) s t u m n
-swapped Originator MessagePriority depth s t u g c o g' c' o' m n =
-    moved_field originator_slot priority_slot ((λ s x. refl), (λ s y. refl), (λ s x y. refl)) s t u m n
-swapped Originator Indicators depth s t u g c o g' c' o' m n =
-    moved_field originator_slot indicators_slot ((λ s x. refl), (λ s y. refl), (λ s x y. refl)) s t u m n
-swapped Originator TraceList depth s t u g c o g' c' o' m n =
-    moved_field originator_slot trace_slot ((λ s x. refl), (λ s y. refl), (λ s x y. refl)) s t u m n
-swapped Originator ContentIdentifier depth s t u g c o g' c' o' m n =
-    moved_field originator_slot content_id_slot ((λ s x. refl), (λ s y. refl), (λ s x y. refl)) s t u m n
-swapped Originator Deferral depth s t u g c o g' c' o' m n =
-    moved_field originator_slot deferral_slot ((λ s x. refl), (λ s y. refl), (λ s x y. refl)) s t u m n
-swapped Originator Length depth s t u g c o g' c' o' m n =
-    moved_field originator_slot length_slot ((λ s x. refl), (λ s y. refl), (λ s x y. refl)) s t u m n
-swapped Originator Bilateral depth s t u g c o g' c' o' m n =
-    moved_field originator_slot bilateral_slot ((λ s x. refl), (λ s y. refl), (λ s x y. refl)) s t u m n
-swapped Originator RecipientList depth s t u g c o g' c' o' m n =
-    moved_field originator_slot recipients_slot ((λ s x. refl), (λ s y. refl), (λ s x y. refl)) s t u m n
-swapped Originator ExtensionSet depth s t u g c o g' c' o' m n =
-    moved_field originator_slot extensions_slot ((λ s x. refl), (λ s y. refl), (λ s x y. refl)) s t u m n
-swapped Identifier Originator depth s t u g c o g' c' o' m n =
-    moved_field id_slot originator_slot ((λ s x. refl), (λ s y. refl), (λ s x y. refl)) s t u m n
-swapped Identifier Identifier depth s t u g c o g' c' o' m n = absurd (twice_in_field id_slot (λ s x. refl) s t u m n)
-swapped Identifier InformationTypes depth s t u g c o g' c' o' m n =
-    moved_field id_slot eits_slot ((λ s x. refl), (λ s y. refl), (λ s x y. refl)) s t u m n
-swapped Identifier ContentType depth s t u g c o g' c' o' m n =
-    moved_field id_slot content_kind_slot ((λ s x. refl), (λ s y. refl), (λ s x y. refl)) s t u m n
-swapped Identifier MessagePriority depth s t u g c o g' c' o' m n =
-    moved_field id_slot priority_slot ((λ s x. refl), (λ s y. refl), (λ s x y. refl)) s t u m n
-swapped Identifier Indicators depth s t u g c o g' c' o' m n =
-    moved_field id_slot indicators_slot ((λ s x. refl), (λ s y. refl), (λ s x y. refl)) s t u m n
-swapped Identifier TraceList depth s t u g c o g' c' o' m n =
-    moved_field id_slot trace_slot ((λ s x. refl), (λ s y. refl), (λ s x y. refl)) s t u m n
-swapped Identifier ContentIdentifier depth s t u g c o g' c' o' m n =
-    moved_field id_slot content_id_slot ((λ s x. refl), (λ s y. refl), (λ s x y. refl)) s t u m n
-swapped Identifier Deferral depth s t u g c o g' c' o' m n =
-    moved_field id_slot deferral_slot ((λ s x. refl), (λ s y. refl), (λ s x y. refl)) s t u m n
-swapped Identifier Length depth s t u g c o g' c' o' m n =
-    moved_field id_slot length_slot ((λ s x. refl), (λ s y. refl), (λ s x y. refl)) s t u m n
-swapped Identifier Bilateral depth s t u g c o g' c' o' m n =
-    moved_field id_slot bilateral_slot ((λ s x. refl), (λ s y. refl), (λ s x y. refl)) s t u m n
-swapped Identifier RecipientList depth s t u g c o g' c' o' m n =
-    moved_field id_slot recipients_slot ((λ s x. refl), (λ s y. refl), (λ s x y. refl)) s t u m n
-swapped Identifier ExtensionSet depth s t u g c o g' c' o' m n =
-    moved_field id_slot extensions_slot ((λ s x. refl), (λ s y. refl), (λ s x y. refl)) s t u m n
-swapped InformationTypes Originator depth s t u g c o g' c' o' m n =
-    moved_field eits_slot originator_slot ((λ s x. refl), (λ s y. refl), (λ s x y. refl)) s t u m n
-swapped InformationTypes Identifier depth s t u g c o g' c' o' m n =
-    moved_field eits_slot id_slot ((λ s x. refl), (λ s y. refl), (λ s x y. refl)) s t u m n
-swapped InformationTypes InformationTypes depth s t u g c o g' c' o' m n =
-    absurd (twice_in_field eits_slot (λ s x. refl) s t u m n)
-swapped InformationTypes ContentType depth s t u g c o g' c' o' m n =
-    moved_field eits_slot content_kind_slot ((λ s x. refl), (λ s y. refl), (λ s x y. refl)) s t u m n
-swapped InformationTypes MessagePriority depth s t u g c o g' c' o' m n =
-    moved_field eits_slot priority_slot ((λ s x. refl), (λ s y. refl), (λ s x y. refl)) s t u m n
-swapped InformationTypes Indicators depth s t u g c o g' c' o' m n =
-    moved_field eits_slot indicators_slot ((λ s x. refl), (λ s y. refl), (λ s x y. refl)) s t u m n
-swapped InformationTypes TraceList depth s t u g c o g' c' o' m n =
-    moved_field eits_slot trace_slot ((λ s x. refl), (λ s y. refl), (λ s x y. refl)) s t u m n
-swapped InformationTypes ContentIdentifier depth s t u g c o g' c' o' m n =
-    moved_field eits_slot content_id_slot ((λ s x. refl), (λ s y. refl), (λ s x y. refl)) s t u m n
-swapped InformationTypes Deferral depth s t u g c o g' c' o' m n =
-    moved_field eits_slot deferral_slot ((λ s x. refl), (λ s y. refl), (λ s x y. refl)) s t u m n
-swapped InformationTypes Length depth s t u g c o g' c' o' m n =
-    moved_field eits_slot length_slot ((λ s x. refl), (λ s y. refl), (λ s x y. refl)) s t u m n
-swapped InformationTypes Bilateral depth s t u g c o g' c' o' m n =
-    moved_field eits_slot bilateral_slot ((λ s x. refl), (λ s y. refl), (λ s x y. refl)) s t u m n
-swapped InformationTypes RecipientList depth s t u g c o g' c' o' m n =
-    moved_field eits_slot recipients_slot ((λ s x. refl), (λ s y. refl), (λ s x y. refl)) s t u m n
-swapped InformationTypes ExtensionSet depth s t u g c o g' c' o' m n =
-    moved_field eits_slot extensions_slot ((λ s x. refl), (λ s y. refl), (λ s x y. refl)) s t u m n
-swapped ContentType Originator depth s t u g c o g' c' o' m n =
-    moved_field content_kind_slot originator_slot ((λ s x. refl), (λ s y. refl), (λ s x y. refl)) s t u m n
-swapped ContentType Identifier depth s t u g c o g' c' o' m n =
-    moved_field content_kind_slot id_slot ((λ s x. refl), (λ s y. refl), (λ s x y. refl)) s t u m n
-swapped ContentType InformationTypes depth s t u g c o g' c' o' m n =
-    moved_field content_kind_slot eits_slot ((λ s x. refl), (λ s y. refl), (λ s x y. refl)) s t u m n
-swapped ContentType ContentType depth s t u g c o g' c' o' m n =
-    absurd (twice_in_field content_kind_slot (λ s x. refl) s t u m n)
-swapped ContentType MessagePriority depth s t u g c o g' c' o' m n =
-    moved_field content_kind_slot priority_slot ((λ s x. refl), (λ s y. refl), (λ s x y. refl)) s t u m n
-swapped ContentType Indicators depth s t u g c o g' c' o' m n =
-    moved_field content_kind_slot indicators_slot ((λ s x. refl), (λ s y. refl), (λ s x y. refl)) s t u m n
-swapped ContentType TraceList depth s t u g c o g' c' o' m n =
-    moved_field content_kind_slot trace_slot ((λ s x. refl), (λ s y. refl), (λ s x y. refl)) s t u m n
-swapped ContentType ContentIdentifier depth s t u g c o g' c' o' m n =
-    moved_field content_kind_slot content_id_slot ((λ s x. refl), (λ s y. refl), (λ s x y. refl)) s t u m n
-swapped ContentType Deferral depth s t u g c o g' c' o' m n =
-    moved_field content_kind_slot deferral_slot ((λ s x. refl), (λ s y. refl), (λ s x y. refl)) s t u m n
-swapped ContentType Length depth s t u g c o g' c' o' m n =
-    moved_field content_kind_slot length_slot ((λ s x. refl), (λ s y. refl), (λ s x y. refl)) s t u m n
-swapped ContentType Bilateral depth s t u g c o g' c' o' m n =
-    moved_field content_kind_slot bilateral_slot ((λ s x. refl), (λ s y. refl), (λ s x y. refl)) s t u m n
-swapped ContentType RecipientList depth s t u g c o g' c' o' m n =
-    moved_field content_kind_slot recipients_slot ((λ s x. refl), (λ s y. refl), (λ s x y. refl)) s t u m n
-swapped ContentType ExtensionSet depth s t u g c o g' c' o' m n =
-    moved_field content_kind_slot extensions_slot ((λ s x. refl), (λ s y. refl), (λ s x y. refl)) s t u m n
-swapped MessagePriority Originator depth s t u g c o g' c' o' m n =
-    moved_field priority_slot originator_slot ((λ s x. refl), (λ s y. refl), (λ s x y. refl)) s t u m n
-swapped MessagePriority Identifier depth s t u g c o g' c' o' m n =
-    moved_field priority_slot id_slot ((λ s x. refl), (λ s y. refl), (λ s x y. refl)) s t u m n
-swapped MessagePriority InformationTypes depth s t u g c o g' c' o' m n =
-    moved_field priority_slot eits_slot ((λ s x. refl), (λ s y. refl), (λ s x y. refl)) s t u m n
-swapped MessagePriority ContentType depth s t u g c o g' c' o' m n =
-    moved_field priority_slot content_kind_slot ((λ s x. refl), (λ s y. refl), (λ s x y. refl)) s t u m n
-swapped MessagePriority MessagePriority depth s t u g c o g' c' o' m n =
-    absurd (twice_in_field priority_slot (λ s x. refl) s t u m n)
-swapped MessagePriority Indicators depth s t u g c o g' c' o' m n =
-    moved_field priority_slot indicators_slot ((λ s x. refl), (λ s y. refl), (λ s x y. refl)) s t u m n
-swapped MessagePriority TraceList depth s t u g c o g' c' o' m n =
-    moved_field priority_slot trace_slot ((λ s x. refl), (λ s y. refl), (λ s x y. refl)) s t u m n
-swapped MessagePriority ContentIdentifier depth s t u g c o g' c' o' m n =
-    moved_field priority_slot content_id_slot ((λ s x. refl), (λ s y. refl), (λ s x y. refl)) s t u m n
-swapped MessagePriority Deferral depth s t u g c o g' c' o' m n =
-    moved_field priority_slot deferral_slot ((λ s x. refl), (λ s y. refl), (λ s x y. refl)) s t u m n
-swapped MessagePriority Length depth s t u g c o g' c' o' m n =
-    moved_field priority_slot length_slot ((λ s x. refl), (λ s y. refl), (λ s x y. refl)) s t u m n
-swapped MessagePriority Bilateral depth s t u g c o g' c' o' m n =
-    moved_field priority_slot bilateral_slot ((λ s x. refl), (λ s y. refl), (λ s x y. refl)) s t u m n
-swapped MessagePriority RecipientList depth s t u g c o g' c' o' m n =
-    moved_field priority_slot recipients_slot ((λ s x. refl), (λ s y. refl), (λ s x y. refl)) s t u m n
-swapped MessagePriority ExtensionSet depth s t u g c o g' c' o' m n =
-    moved_field priority_slot extensions_slot ((λ s x. refl), (λ s y. refl), (λ s x y. refl)) s t u m n
-swapped Indicators Originator depth s t u g c o g' c' o' m n =
-    moved_field indicators_slot originator_slot ((λ s x. refl), (λ s y. refl), (λ s x y. refl)) s t u m n
-swapped Indicators Identifier depth s t u g c o g' c' o' m n =
-    moved_field indicators_slot id_slot ((λ s x. refl), (λ s y. refl), (λ s x y. refl)) s t u m n
-swapped Indicators InformationTypes depth s t u g c o g' c' o' m n =
-    moved_field indicators_slot eits_slot ((λ s x. refl), (λ s y. refl), (λ s x y. refl)) s t u m n
-swapped Indicators ContentType depth s t u g c o g' c' o' m n =
-    moved_field indicators_slot content_kind_slot ((λ s x. refl), (λ s y. refl), (λ s x y. refl)) s t u m n
-swapped Indicators MessagePriority depth s t u g c o g' c' o' m n =
-    moved_field indicators_slot priority_slot ((λ s x. refl), (λ s y. refl), (λ s x y. refl)) s t u m n
-swapped Indicators Indicators depth s t u g c o g' c' o' m n =
-    absurd (twice_in_field indicators_slot (λ s x. refl) s t u m n)
-swapped Indicators TraceList depth s t u g c o g' c' o' m n =
-    moved_field indicators_slot trace_slot ((λ s x. refl), (λ s y. refl), (λ s x y. refl)) s t u m n
-swapped Indicators ContentIdentifier depth s t u g c o g' c' o' m n =
-    moved_field indicators_slot content_id_slot ((λ s x. refl), (λ s y. refl), (λ s x y. refl)) s t u m n
-swapped Indicators Deferral depth s t u g c o g' c' o' m n =
-    moved_field indicators_slot deferral_slot ((λ s x. refl), (λ s y. refl), (λ s x y. refl)) s t u m n
-swapped Indicators Length depth s t u g c o g' c' o' m n =
-    moved_field indicators_slot length_slot ((λ s x. refl), (λ s y. refl), (λ s x y. refl)) s t u m n
-swapped Indicators Bilateral depth s t u g c o g' c' o' m n =
-    moved_field indicators_slot bilateral_slot ((λ s x. refl), (λ s y. refl), (λ s x y. refl)) s t u m n
-swapped Indicators RecipientList depth s t u g c o g' c' o' m n =
-    moved_field indicators_slot recipients_slot ((λ s x. refl), (λ s y. refl), (λ s x y. refl)) s t u m n
-swapped Indicators ExtensionSet depth s t u g c o g' c' o' m n =
-    moved_field indicators_slot extensions_slot ((λ s x. refl), (λ s y. refl), (λ s x y. refl)) s t u m n
-swapped TraceList Originator depth s t u g c o g' c' o' m n =
-    moved_field trace_slot originator_slot ((λ s x. refl), (λ s y. refl), (λ s x y. refl)) s t u m n
-swapped TraceList Identifier depth s t u g c o g' c' o' m n =
-    moved_field trace_slot id_slot ((λ s x. refl), (λ s y. refl), (λ s x y. refl)) s t u m n
-swapped TraceList InformationTypes depth s t u g c o g' c' o' m n =
-    moved_field trace_slot eits_slot ((λ s x. refl), (λ s y. refl), (λ s x y. refl)) s t u m n
-swapped TraceList ContentType depth s t u g c o g' c' o' m n =
-    moved_field trace_slot content_kind_slot ((λ s x. refl), (λ s y. refl), (λ s x y. refl)) s t u m n
-swapped TraceList MessagePriority depth s t u g c o g' c' o' m n =
-    moved_field trace_slot priority_slot ((λ s x. refl), (λ s y. refl), (λ s x y. refl)) s t u m n
-swapped TraceList Indicators depth s t u g c o g' c' o' m n =
-    moved_field trace_slot indicators_slot ((λ s x. refl), (λ s y. refl), (λ s x y. refl)) s t u m n
-swapped TraceList TraceList depth s t u g c o g' c' o' m n = absurd (twice_in_field trace_slot (λ s x. refl) s t u m n)
-swapped TraceList ContentIdentifier depth s t u g c o g' c' o' m n =
-    moved_field trace_slot content_id_slot ((λ s x. refl), (λ s y. refl), (λ s x y. refl)) s t u m n
-swapped TraceList Deferral depth s t u g c o g' c' o' m n =
-    moved_field trace_slot deferral_slot ((λ s x. refl), (λ s y. refl), (λ s x y. refl)) s t u m n
-swapped TraceList Length depth s t u g c o g' c' o' m n =
-    moved_field trace_slot length_slot ((λ s x. refl), (λ s y. refl), (λ s x y. refl)) s t u m n
-swapped TraceList Bilateral depth s t u g c o g' c' o' m n =
-    moved_field trace_slot bilateral_slot ((λ s x. refl), (λ s y. refl), (λ s x y. refl)) s t u m n
-swapped TraceList RecipientList depth s t u g c o g' c' o' m n =
-    moved_field trace_slot recipients_slot ((λ s x. refl), (λ s y. refl), (λ s x y. refl)) s t u m n
-swapped TraceList ExtensionSet depth s t u g c o g' c' o' m n =
-    moved_field trace_slot extensions_slot ((λ s x. refl), (λ s y. refl), (λ s x y. refl)) s t u m n
-swapped ContentIdentifier Originator depth s t u g c o g' c' o' m n =
-    moved_field content_id_slot originator_slot ((λ s x. refl), (λ s y. refl), (λ s x y. refl)) s t u m n
-swapped ContentIdentifier Identifier depth s t u g c o g' c' o' m n =
-    moved_field content_id_slot id_slot ((λ s x. refl), (λ s y. refl), (λ s x y. refl)) s t u m n
-swapped ContentIdentifier InformationTypes depth s t u g c o g' c' o' m n =
-    moved_field content_id_slot eits_slot ((λ s x. refl), (λ s y. refl), (λ s x y. refl)) s t u m n
-swapped ContentIdentifier ContentType depth s t u g c o g' c' o' m n =
-    moved_field content_id_slot content_kind_slot ((λ s x. refl), (λ s y. refl), (λ s x y. refl)) s t u m n
-swapped ContentIdentifier MessagePriority depth s t u g c o g' c' o' m n =
-    moved_field content_id_slot priority_slot ((λ s x. refl), (λ s y. refl), (λ s x y. refl)) s t u m n
-swapped ContentIdentifier Indicators depth s t u g c o g' c' o' m n =
-    moved_field content_id_slot indicators_slot ((λ s x. refl), (λ s y. refl), (λ s x y. refl)) s t u m n
-swapped ContentIdentifier TraceList depth s t u g c o g' c' o' m n =
-    moved_field content_id_slot trace_slot ((λ s x. refl), (λ s y. refl), (λ s x y. refl)) s t u m n
-swapped ContentIdentifier ContentIdentifier depth s t u g c o g' c' o' m n =
-    absurd (twice_in_field content_id_slot (λ s x. refl) s t u m n)
-swapped ContentIdentifier Deferral depth s t u g c o g' c' o' m n =
-    moved_field content_id_slot deferral_slot ((λ s x. refl), (λ s y. refl), (λ s x y. refl)) s t u m n
-swapped ContentIdentifier Length depth s t u g c o g' c' o' m n =
-    moved_field content_id_slot length_slot ((λ s x. refl), (λ s y. refl), (λ s x y. refl)) s t u m n
-swapped ContentIdentifier Bilateral depth s t u g c o g' c' o' m n =
-    moved_field content_id_slot bilateral_slot ((λ s x. refl), (λ s y. refl), (λ s x y. refl)) s t u m n
-swapped ContentIdentifier RecipientList depth s t u g c o g' c' o' m n =
-    moved_field content_id_slot recipients_slot ((λ s x. refl), (λ s y. refl), (λ s x y. refl)) s t u m n
-swapped ContentIdentifier ExtensionSet depth s t u g c o g' c' o' m n =
-    moved_field content_id_slot extensions_slot ((λ s x. refl), (λ s y. refl), (λ s x y. refl)) s t u m n
-swapped Deferral Originator depth s t u g c o g' c' o' m n =
-    moved_field deferral_slot originator_slot ((λ s x. refl), (λ s y. refl), (λ s x y. refl)) s t u m n
-swapped Deferral Identifier depth s t u g c o g' c' o' m n =
-    moved_field deferral_slot id_slot ((λ s x. refl), (λ s y. refl), (λ s x y. refl)) s t u m n
-swapped Deferral InformationTypes depth s t u g c o g' c' o' m n =
-    moved_field deferral_slot eits_slot ((λ s x. refl), (λ s y. refl), (λ s x y. refl)) s t u m n
-swapped Deferral ContentType depth s t u g c o g' c' o' m n =
-    moved_field deferral_slot content_kind_slot ((λ s x. refl), (λ s y. refl), (λ s x y. refl)) s t u m n
-swapped Deferral MessagePriority depth s t u g c o g' c' o' m n =
-    moved_field deferral_slot priority_slot ((λ s x. refl), (λ s y. refl), (λ s x y. refl)) s t u m n
-swapped Deferral Indicators depth s t u g c o g' c' o' m n =
-    moved_field deferral_slot indicators_slot ((λ s x. refl), (λ s y. refl), (λ s x y. refl)) s t u m n
-swapped Deferral TraceList depth s t u g c o g' c' o' m n =
-    moved_field deferral_slot trace_slot ((λ s x. refl), (λ s y. refl), (λ s x y. refl)) s t u m n
-swapped Deferral ContentIdentifier depth s t u g c o g' c' o' m n =
-    moved_field deferral_slot content_id_slot ((λ s x. refl), (λ s y. refl), (λ s x y. refl)) s t u m n
-swapped Deferral Deferral depth s t u g c o g' c' o' m n = absurd (twice_in_field deferral_slot (λ s x. refl) s t u m n)
-swapped Deferral Length depth s t u g c o g' c' o' m n =
-    moved_field deferral_slot length_slot ((λ s x. refl), (λ s y. refl), (λ s x y. refl)) s t u m n
-swapped Deferral Bilateral depth s t u g c o g' c' o' m n =
-    moved_field deferral_slot bilateral_slot ((λ s x. refl), (λ s y. refl), (λ s x y. refl)) s t u m n
-swapped Deferral RecipientList depth s t u g c o g' c' o' m n =
-    moved_field deferral_slot recipients_slot ((λ s x. refl), (λ s y. refl), (λ s x y. refl)) s t u m n
-swapped Deferral ExtensionSet depth s t u g c o g' c' o' m n =
-    moved_field deferral_slot extensions_slot ((λ s x. refl), (λ s y. refl), (λ s x y. refl)) s t u m n
-swapped Length Originator depth s t u g c o g' c' o' m n =
-    moved_field length_slot originator_slot ((λ s x. refl), (λ s y. refl), (λ s x y. refl)) s t u m n
-swapped Length Identifier depth s t u g c o g' c' o' m n =
-    moved_field length_slot id_slot ((λ s x. refl), (λ s y. refl), (λ s x y. refl)) s t u m n
-swapped Length InformationTypes depth s t u g c o g' c' o' m n =
-    moved_field length_slot eits_slot ((λ s x. refl), (λ s y. refl), (λ s x y. refl)) s t u m n
-swapped Length ContentType depth s t u g c o g' c' o' m n =
-    moved_field length_slot content_kind_slot ((λ s x. refl), (λ s y. refl), (λ s x y. refl)) s t u m n
-swapped Length MessagePriority depth s t u g c o g' c' o' m n =
-    moved_field length_slot priority_slot ((λ s x. refl), (λ s y. refl), (λ s x y. refl)) s t u m n
-swapped Length Indicators depth s t u g c o g' c' o' m n =
-    moved_field length_slot indicators_slot ((λ s x. refl), (λ s y. refl), (λ s x y. refl)) s t u m n
-swapped Length TraceList depth s t u g c o g' c' o' m n =
-    moved_field length_slot trace_slot ((λ s x. refl), (λ s y. refl), (λ s x y. refl)) s t u m n
-swapped Length ContentIdentifier depth s t u g c o g' c' o' m n =
-    moved_field length_slot content_id_slot ((λ s x. refl), (λ s y. refl), (λ s x y. refl)) s t u m n
-swapped Length Deferral depth s t u g c o g' c' o' m n =
-    moved_field length_slot deferral_slot ((λ s x. refl), (λ s y. refl), (λ s x y. refl)) s t u m n
-swapped Length Length depth s t u g c o g' c' o' m n = absurd (twice_in_field length_slot (λ s x. refl) s t u m n)
-swapped Length Bilateral depth s t u g c o g' c' o' m n =
-    moved_field length_slot bilateral_slot ((λ s x. refl), (λ s y. refl), (λ s x y. refl)) s t u m n
-swapped Length RecipientList depth s t u g c o g' c' o' m n =
-    moved_field length_slot recipients_slot ((λ s x. refl), (λ s y. refl), (λ s x y. refl)) s t u m n
-swapped Length ExtensionSet depth s t u g c o g' c' o' m n =
-    moved_field length_slot extensions_slot ((λ s x. refl), (λ s y. refl), (λ s x y. refl)) s t u m n
-swapped Bilateral Originator depth s t u g c o g' c' o' m n =
-    moved_field bilateral_slot originator_slot ((λ s x. refl), (λ s y. refl), (λ s x y. refl)) s t u m n
-swapped Bilateral Identifier depth s t u g c o g' c' o' m n =
-    moved_field bilateral_slot id_slot ((λ s x. refl), (λ s y. refl), (λ s x y. refl)) s t u m n
-swapped Bilateral InformationTypes depth s t u g c o g' c' o' m n =
-    moved_field bilateral_slot eits_slot ((λ s x. refl), (λ s y. refl), (λ s x y. refl)) s t u m n
-swapped Bilateral ContentType depth s t u g c o g' c' o' m n =
-    moved_field bilateral_slot content_kind_slot ((λ s x. refl), (λ s y. refl), (λ s x y. refl)) s t u m n
-swapped Bilateral MessagePriority depth s t u g c o g' c' o' m n =
-    moved_field bilateral_slot priority_slot ((λ s x. refl), (λ s y. refl), (λ s x y. refl)) s t u m n
-swapped Bilateral Indicators depth s t u g c o g' c' o' m n =
-    moved_field bilateral_slot indicators_slot ((λ s x. refl), (λ s y. refl), (λ s x y. refl)) s t u m n
-swapped Bilateral TraceList depth s t u g c o g' c' o' m n =
-    moved_field bilateral_slot trace_slot ((λ s x. refl), (λ s y. refl), (λ s x y. refl)) s t u m n
-swapped Bilateral ContentIdentifier depth s t u g c o g' c' o' m n =
-    moved_field bilateral_slot content_id_slot ((λ s x. refl), (λ s y. refl), (λ s x y. refl)) s t u m n
-swapped Bilateral Deferral depth s t u g c o g' c' o' m n =
-    moved_field bilateral_slot deferral_slot ((λ s x. refl), (λ s y. refl), (λ s x y. refl)) s t u m n
-swapped Bilateral Length depth s t u g c o g' c' o' m n =
-    moved_field bilateral_slot length_slot ((λ s x. refl), (λ s y. refl), (λ s x y. refl)) s t u m n
-swapped Bilateral Bilateral depth s t u g c o g' c' o' m n =
-    absurd (twice_in_field bilateral_slot (λ s x. refl) s t u m n)
-swapped Bilateral RecipientList depth s t u g c o g' c' o' m n =
-    moved_field bilateral_slot recipients_slot ((λ s x. refl), (λ s y. refl), (λ s x y. refl)) s t u m n
-swapped Bilateral ExtensionSet depth s t u g c o g' c' o' m n =
-    moved_field bilateral_slot extensions_slot ((λ s x. refl), (λ s y. refl), (λ s x y. refl)) s t u m n
-swapped RecipientList Originator depth s t u g c o g' c' o' m n =
-    moved_field recipients_slot originator_slot ((λ s x. refl), (λ s y. refl), (λ s x y. refl)) s t u m n
-swapped RecipientList Identifier depth s t u g c o g' c' o' m n =
-    moved_field recipients_slot id_slot ((λ s x. refl), (λ s y. refl), (λ s x y. refl)) s t u m n
-swapped RecipientList InformationTypes depth s t u g c o g' c' o' m n =
-    moved_field recipients_slot eits_slot ((λ s x. refl), (λ s y. refl), (λ s x y. refl)) s t u m n
-swapped RecipientList ContentType depth s t u g c o g' c' o' m n =
-    moved_field recipients_slot content_kind_slot ((λ s x. refl), (λ s y. refl), (λ s x y. refl)) s t u m n
-swapped RecipientList MessagePriority depth s t u g c o g' c' o' m n =
-    moved_field recipients_slot priority_slot ((λ s x. refl), (λ s y. refl), (λ s x y. refl)) s t u m n
-swapped RecipientList Indicators depth s t u g c o g' c' o' m n =
-    moved_field recipients_slot indicators_slot ((λ s x. refl), (λ s y. refl), (λ s x y. refl)) s t u m n
-swapped RecipientList TraceList depth s t u g c o g' c' o' m n =
-    moved_field recipients_slot trace_slot ((λ s x. refl), (λ s y. refl), (λ s x y. refl)) s t u m n
-swapped RecipientList ContentIdentifier depth s t u g c o g' c' o' m n =
-    moved_field recipients_slot content_id_slot ((λ s x. refl), (λ s y. refl), (λ s x y. refl)) s t u m n
-swapped RecipientList Deferral depth s t u g c o g' c' o' m n =
-    moved_field recipients_slot deferral_slot ((λ s x. refl), (λ s y. refl), (λ s x y. refl)) s t u m n
-swapped RecipientList Length depth s t u g c o g' c' o' m n =
-    moved_field recipients_slot length_slot ((λ s x. refl), (λ s y. refl), (λ s x y. refl)) s t u m n
-swapped RecipientList Bilateral depth s t u g c o g' c' o' m n =
-    moved_field recipients_slot bilateral_slot ((λ s x. refl), (λ s y. refl), (λ s x y. refl)) s t u m n
-swapped RecipientList RecipientList depth s t u g c o g' c' o' m n =
-    absurd (twice_in_field recipients_slot (λ s x. refl) s t u m n)
-swapped RecipientList ExtensionSet depth s t u g c o g' c' o' m n =
-    moved_field recipients_slot extensions_slot ((λ s x. refl), (λ s y. refl), (λ s x y. refl)) s t u m n
-swapped ExtensionSet Originator depth s t u g c o g' c' o' m n =
-    moved_field extensions_slot originator_slot ((λ s x. refl), (λ s y. refl), (λ s x y. refl)) s t u m n
-swapped ExtensionSet Identifier depth s t u g c o g' c' o' m n =
-    moved_field extensions_slot id_slot ((λ s x. refl), (λ s y. refl), (λ s x y. refl)) s t u m n
-swapped ExtensionSet InformationTypes depth s t u g c o g' c' o' m n =
-    moved_field extensions_slot eits_slot ((λ s x. refl), (λ s y. refl), (λ s x y. refl)) s t u m n
-swapped ExtensionSet ContentType depth s t u g c o g' c' o' m n =
-    moved_field extensions_slot content_kind_slot ((λ s x. refl), (λ s y. refl), (λ s x y. refl)) s t u m n
-swapped ExtensionSet MessagePriority depth s t u g c o g' c' o' m n =
-    moved_field extensions_slot priority_slot ((λ s x. refl), (λ s y. refl), (λ s x y. refl)) s t u m n
-swapped ExtensionSet Indicators depth s t u g c o g' c' o' m n =
-    moved_field extensions_slot indicators_slot ((λ s x. refl), (λ s y. refl), (λ s x y. refl)) s t u m n
-swapped ExtensionSet TraceList depth s t u g c o g' c' o' m n =
-    moved_field extensions_slot trace_slot ((λ s x. refl), (λ s y. refl), (λ s x y. refl)) s t u m n
-swapped ExtensionSet ContentIdentifier depth s t u g c o g' c' o' m n =
-    moved_field extensions_slot content_id_slot ((λ s x. refl), (λ s y. refl), (λ s x y. refl)) s t u m n
-swapped ExtensionSet Deferral depth s t u g c o g' c' o' m n =
-    moved_field extensions_slot deferral_slot ((λ s x. refl), (λ s y. refl), (λ s x y. refl)) s t u m n
-swapped ExtensionSet Length depth s t u g c o g' c' o' m n =
-    moved_field extensions_slot length_slot ((λ s x. refl), (λ s y. refl), (λ s x y. refl)) s t u m n
-swapped ExtensionSet Bilateral depth s t u g c o g' c' o' m n =
-    moved_field extensions_slot bilateral_slot ((λ s x. refl), (λ s y. refl), (λ s x y. refl)) s t u m n
-swapped ExtensionSet RecipientList depth s t u g c o g' c' o' m n =
-    moved_field extensions_slot recipients_slot ((λ s x. refl), (λ s y. refl), (λ s x y. refl)) s t u m n
-swapped ExtensionSet ExtensionSet depth s t u g c o g' c' o' m n =
-    absurd (twice_in_field extensions_slot (λ s x. refl) s t u m n)
+-- the second of two components may stand before the first
+module _ (depth : ℕ) (s t u : EnvelopeParts) (tag : Tag) (content octets : List ℕ) (tag' : Tag)
+    (content' octets' : List ℕ) where
+  abbrev Passes : (j k : EnvelopePart) → Type 0
+  Passes j k =
+      MakesEnvelopePart j depth s tag content octets t → MakesEnvelopePart k depth t tag' content' octets' u
+      → (between : EnvelopeParts) × MakesEnvelopePart k depth s tag' content' octets' between
+      × MakesEnvelopePart j depth between tag content octets u
+
+  -- each component passes the originator
+  past_originator : (k : EnvelopePart) → Passes Originator k
+  past_originator Originator = λ m n. absurd (twice_in_field originator_slot (λ s x. refl) s t u m n)
+  past_originator Identifier = passes originator_slot id_slot (λ s x. refl) (λ s y. refl) (λ s x y. refl) s t u
+  past_originator InformationTypes =
+      passes originator_slot eits_slot (λ s x. refl) (λ s y. refl) (λ s x y. refl) s t u
+  past_originator ContentType =
+      passes originator_slot content_kind_slot (λ s x. refl) (λ s y. refl) (λ s x y. refl) s t u
+  past_originator MessagePriority =
+      passes originator_slot priority_slot (λ s x. refl) (λ s y. refl) (λ s x y. refl) s t u
+  past_originator Indicators =
+      passes originator_slot indicators_slot (λ s x. refl) (λ s y. refl) (λ s x y. refl) s t u
+  past_originator TraceList = passes originator_slot trace_slot (λ s x. refl) (λ s y. refl) (λ s x y. refl) s t u
+  past_originator ContentIdentifier =
+      passes originator_slot content_id_slot (λ s x. refl) (λ s y. refl) (λ s x y. refl) s t u
+  past_originator Deferral = passes originator_slot deferral_slot (λ s x. refl) (λ s y. refl) (λ s x y. refl) s t u
+  past_originator Length = passes originator_slot length_slot (λ s x. refl) (λ s y. refl) (λ s x y. refl) s t u
+  past_originator Bilateral = passes originator_slot bilateral_slot (λ s x. refl) (λ s y. refl) (λ s x y. refl) s t u
+  past_originator RecipientList =
+      passes originator_slot recipients_slot (λ s x. refl) (λ s y. refl) (λ s x y. refl) s t u
+  past_originator ExtensionSet =
+      passes originator_slot extensions_slot (λ s x. refl) (λ s y. refl) (λ s x y. refl) s t u
+
+  -- each component passes the identifier
+  past_id : (k : EnvelopePart) → Passes Identifier k
+  past_id Originator = passes id_slot originator_slot (λ s x. refl) (λ s y. refl) (λ s x y. refl) s t u
+  past_id Identifier = λ m n. absurd (twice_in_field id_slot (λ s x. refl) s t u m n)
+  past_id InformationTypes = passes id_slot eits_slot (λ s x. refl) (λ s y. refl) (λ s x y. refl) s t u
+  past_id ContentType = passes id_slot content_kind_slot (λ s x. refl) (λ s y. refl) (λ s x y. refl) s t u
+  past_id MessagePriority = passes id_slot priority_slot (λ s x. refl) (λ s y. refl) (λ s x y. refl) s t u
+  past_id Indicators = passes id_slot indicators_slot (λ s x. refl) (λ s y. refl) (λ s x y. refl) s t u
+  past_id TraceList = passes id_slot trace_slot (λ s x. refl) (λ s y. refl) (λ s x y. refl) s t u
+  past_id ContentIdentifier = passes id_slot content_id_slot (λ s x. refl) (λ s y. refl) (λ s x y. refl) s t u
+  past_id Deferral = passes id_slot deferral_slot (λ s x. refl) (λ s y. refl) (λ s x y. refl) s t u
+  past_id Length = passes id_slot length_slot (λ s x. refl) (λ s y. refl) (λ s x y. refl) s t u
+  past_id Bilateral = passes id_slot bilateral_slot (λ s x. refl) (λ s y. refl) (λ s x y. refl) s t u
+  past_id RecipientList = passes id_slot recipients_slot (λ s x. refl) (λ s y. refl) (λ s x y. refl) s t u
+  past_id ExtensionSet = passes id_slot extensions_slot (λ s x. refl) (λ s y. refl) (λ s x y. refl) s t u
+
+  -- each component passes the encoded information types
+  past_eits : (k : EnvelopePart) → Passes InformationTypes k
+  past_eits Originator = passes eits_slot originator_slot (λ s x. refl) (λ s y. refl) (λ s x y. refl) s t u
+  past_eits Identifier = passes eits_slot id_slot (λ s x. refl) (λ s y. refl) (λ s x y. refl) s t u
+  past_eits InformationTypes = λ m n. absurd (twice_in_field eits_slot (λ s x. refl) s t u m n)
+  past_eits ContentType = passes eits_slot content_kind_slot (λ s x. refl) (λ s y. refl) (λ s x y. refl) s t u
+  past_eits MessagePriority = passes eits_slot priority_slot (λ s x. refl) (λ s y. refl) (λ s x y. refl) s t u
+  past_eits Indicators = passes eits_slot indicators_slot (λ s x. refl) (λ s y. refl) (λ s x y. refl) s t u
+  past_eits TraceList = passes eits_slot trace_slot (λ s x. refl) (λ s y. refl) (λ s x y. refl) s t u
+  past_eits ContentIdentifier = passes eits_slot content_id_slot (λ s x. refl) (λ s y. refl) (λ s x y. refl) s t u
+  past_eits Deferral = passes eits_slot deferral_slot (λ s x. refl) (λ s y. refl) (λ s x y. refl) s t u
+  past_eits Length = passes eits_slot length_slot (λ s x. refl) (λ s y. refl) (λ s x y. refl) s t u
+  past_eits Bilateral = passes eits_slot bilateral_slot (λ s x. refl) (λ s y. refl) (λ s x y. refl) s t u
+  past_eits RecipientList = passes eits_slot recipients_slot (λ s x. refl) (λ s y. refl) (λ s x y. refl) s t u
+  past_eits ExtensionSet = passes eits_slot extensions_slot (λ s x. refl) (λ s y. refl) (λ s x y. refl) s t u
+
+  -- each component passes the content type
+  past_content_kind : (k : EnvelopePart) → Passes ContentType k
+  past_content_kind Originator =
+      passes content_kind_slot originator_slot (λ s x. refl) (λ s y. refl) (λ s x y. refl) s t u
+  past_content_kind Identifier = passes content_kind_slot id_slot (λ s x. refl) (λ s y. refl) (λ s x y. refl) s t u
+  past_content_kind InformationTypes =
+      passes content_kind_slot eits_slot (λ s x. refl) (λ s y. refl) (λ s x y. refl) s t u
+  past_content_kind ContentType = λ m n. absurd (twice_in_field content_kind_slot (λ s x. refl) s t u m n)
+  past_content_kind MessagePriority =
+      passes content_kind_slot priority_slot (λ s x. refl) (λ s y. refl) (λ s x y. refl) s t u
+  past_content_kind Indicators =
+      passes content_kind_slot indicators_slot (λ s x. refl) (λ s y. refl) (λ s x y. refl) s t u
+  past_content_kind TraceList = passes content_kind_slot trace_slot (λ s x. refl) (λ s y. refl) (λ s x y. refl) s t u
+  past_content_kind ContentIdentifier =
+      passes content_kind_slot content_id_slot (λ s x. refl) (λ s y. refl) (λ s x y. refl) s t u
+  past_content_kind Deferral =
+      passes content_kind_slot deferral_slot (λ s x. refl) (λ s y. refl) (λ s x y. refl) s t u
+  past_content_kind Length = passes content_kind_slot length_slot (λ s x. refl) (λ s y. refl) (λ s x y. refl) s t u
+  past_content_kind Bilateral =
+      passes content_kind_slot bilateral_slot (λ s x. refl) (λ s y. refl) (λ s x y. refl) s t u
+  past_content_kind RecipientList =
+      passes content_kind_slot recipients_slot (λ s x. refl) (λ s y. refl) (λ s x y. refl) s t u
+  past_content_kind ExtensionSet =
+      passes content_kind_slot extensions_slot (λ s x. refl) (λ s y. refl) (λ s x y. refl) s t u
+
+  -- each component passes the priority
+  past_priority : (k : EnvelopePart) → Passes MessagePriority k
+  past_priority Originator = passes priority_slot originator_slot (λ s x. refl) (λ s y. refl) (λ s x y. refl) s t u
+  past_priority Identifier = passes priority_slot id_slot (λ s x. refl) (λ s y. refl) (λ s x y. refl) s t u
+  past_priority InformationTypes = passes priority_slot eits_slot (λ s x. refl) (λ s y. refl) (λ s x y. refl) s t u
+  past_priority ContentType =
+      passes priority_slot content_kind_slot (λ s x. refl) (λ s y. refl) (λ s x y. refl) s t u
+  past_priority MessagePriority = λ m n. absurd (twice_in_field priority_slot (λ s x. refl) s t u m n)
+  past_priority Indicators = passes priority_slot indicators_slot (λ s x. refl) (λ s y. refl) (λ s x y. refl) s t u
+  past_priority TraceList = passes priority_slot trace_slot (λ s x. refl) (λ s y. refl) (λ s x y. refl) s t u
+  past_priority ContentIdentifier =
+      passes priority_slot content_id_slot (λ s x. refl) (λ s y. refl) (λ s x y. refl) s t u
+  past_priority Deferral = passes priority_slot deferral_slot (λ s x. refl) (λ s y. refl) (λ s x y. refl) s t u
+  past_priority Length = passes priority_slot length_slot (λ s x. refl) (λ s y. refl) (λ s x y. refl) s t u
+  past_priority Bilateral = passes priority_slot bilateral_slot (λ s x. refl) (λ s y. refl) (λ s x y. refl) s t u
+  past_priority RecipientList =
+      passes priority_slot recipients_slot (λ s x. refl) (λ s y. refl) (λ s x y. refl) s t u
+  past_priority ExtensionSet = passes priority_slot extensions_slot (λ s x. refl) (λ s y. refl) (λ s x y. refl) s t u
+
+  -- each component passes the indicators
+  past_indicators : (k : EnvelopePart) → Passes Indicators k
+  past_indicators Originator =
+      passes indicators_slot originator_slot (λ s x. refl) (λ s y. refl) (λ s x y. refl) s t u
+  past_indicators Identifier = passes indicators_slot id_slot (λ s x. refl) (λ s y. refl) (λ s x y. refl) s t u
+  past_indicators InformationTypes =
+      passes indicators_slot eits_slot (λ s x. refl) (λ s y. refl) (λ s x y. refl) s t u
+  past_indicators ContentType =
+      passes indicators_slot content_kind_slot (λ s x. refl) (λ s y. refl) (λ s x y. refl) s t u
+  past_indicators MessagePriority =
+      passes indicators_slot priority_slot (λ s x. refl) (λ s y. refl) (λ s x y. refl) s t u
+  past_indicators Indicators = λ m n. absurd (twice_in_field indicators_slot (λ s x. refl) s t u m n)
+  past_indicators TraceList = passes indicators_slot trace_slot (λ s x. refl) (λ s y. refl) (λ s x y. refl) s t u
+  past_indicators ContentIdentifier =
+      passes indicators_slot content_id_slot (λ s x. refl) (λ s y. refl) (λ s x y. refl) s t u
+  past_indicators Deferral = passes indicators_slot deferral_slot (λ s x. refl) (λ s y. refl) (λ s x y. refl) s t u
+  past_indicators Length = passes indicators_slot length_slot (λ s x. refl) (λ s y. refl) (λ s x y. refl) s t u
+  past_indicators Bilateral = passes indicators_slot bilateral_slot (λ s x. refl) (λ s y. refl) (λ s x y. refl) s t u
+  past_indicators RecipientList =
+      passes indicators_slot recipients_slot (λ s x. refl) (λ s y. refl) (λ s x y. refl) s t u
+  past_indicators ExtensionSet =
+      passes indicators_slot extensions_slot (λ s x. refl) (λ s y. refl) (λ s x y. refl) s t u
+
+  -- each component passes the trace
+  past_trace : (k : EnvelopePart) → Passes TraceList k
+  past_trace Originator = passes trace_slot originator_slot (λ s x. refl) (λ s y. refl) (λ s x y. refl) s t u
+  past_trace Identifier = passes trace_slot id_slot (λ s x. refl) (λ s y. refl) (λ s x y. refl) s t u
+  past_trace InformationTypes = passes trace_slot eits_slot (λ s x. refl) (λ s y. refl) (λ s x y. refl) s t u
+  past_trace ContentType = passes trace_slot content_kind_slot (λ s x. refl) (λ s y. refl) (λ s x y. refl) s t u
+  past_trace MessagePriority = passes trace_slot priority_slot (λ s x. refl) (λ s y. refl) (λ s x y. refl) s t u
+  past_trace Indicators = passes trace_slot indicators_slot (λ s x. refl) (λ s y. refl) (λ s x y. refl) s t u
+  past_trace TraceList = λ m n. absurd (twice_in_field trace_slot (λ s x. refl) s t u m n)
+  past_trace ContentIdentifier = passes trace_slot content_id_slot (λ s x. refl) (λ s y. refl) (λ s x y. refl) s t u
+  past_trace Deferral = passes trace_slot deferral_slot (λ s x. refl) (λ s y. refl) (λ s x y. refl) s t u
+  past_trace Length = passes trace_slot length_slot (λ s x. refl) (λ s y. refl) (λ s x y. refl) s t u
+  past_trace Bilateral = passes trace_slot bilateral_slot (λ s x. refl) (λ s y. refl) (λ s x y. refl) s t u
+  past_trace RecipientList = passes trace_slot recipients_slot (λ s x. refl) (λ s y. refl) (λ s x y. refl) s t u
+  past_trace ExtensionSet = passes trace_slot extensions_slot (λ s x. refl) (λ s y. refl) (λ s x y. refl) s t u
+
+  -- each component passes the content identifier
+  past_content_id : (k : EnvelopePart) → Passes ContentIdentifier k
+  past_content_id Originator =
+      passes content_id_slot originator_slot (λ s x. refl) (λ s y. refl) (λ s x y. refl) s t u
+  past_content_id Identifier = passes content_id_slot id_slot (λ s x. refl) (λ s y. refl) (λ s x y. refl) s t u
+  past_content_id InformationTypes =
+      passes content_id_slot eits_slot (λ s x. refl) (λ s y. refl) (λ s x y. refl) s t u
+  past_content_id ContentType =
+      passes content_id_slot content_kind_slot (λ s x. refl) (λ s y. refl) (λ s x y. refl) s t u
+  past_content_id MessagePriority =
+      passes content_id_slot priority_slot (λ s x. refl) (λ s y. refl) (λ s x y. refl) s t u
+  past_content_id Indicators =
+      passes content_id_slot indicators_slot (λ s x. refl) (λ s y. refl) (λ s x y. refl) s t u
+  past_content_id TraceList = passes content_id_slot trace_slot (λ s x. refl) (λ s y. refl) (λ s x y. refl) s t u
+  past_content_id ContentIdentifier = λ m n. absurd (twice_in_field content_id_slot (λ s x. refl) s t u m n)
+  past_content_id Deferral = passes content_id_slot deferral_slot (λ s x. refl) (λ s y. refl) (λ s x y. refl) s t u
+  past_content_id Length = passes content_id_slot length_slot (λ s x. refl) (λ s y. refl) (λ s x y. refl) s t u
+  past_content_id Bilateral = passes content_id_slot bilateral_slot (λ s x. refl) (λ s y. refl) (λ s x y. refl) s t u
+  past_content_id RecipientList =
+      passes content_id_slot recipients_slot (λ s x. refl) (λ s y. refl) (λ s x y. refl) s t u
+  past_content_id ExtensionSet =
+      passes content_id_slot extensions_slot (λ s x. refl) (λ s y. refl) (λ s x y. refl) s t u
+
+  -- each component passes the time of deferral
+  past_deferral : (k : EnvelopePart) → Passes Deferral k
+  past_deferral Originator = passes deferral_slot originator_slot (λ s x. refl) (λ s y. refl) (λ s x y. refl) s t u
+  past_deferral Identifier = passes deferral_slot id_slot (λ s x. refl) (λ s y. refl) (λ s x y. refl) s t u
+  past_deferral InformationTypes = passes deferral_slot eits_slot (λ s x. refl) (λ s y. refl) (λ s x y. refl) s t u
+  past_deferral ContentType =
+      passes deferral_slot content_kind_slot (λ s x. refl) (λ s y. refl) (λ s x y. refl) s t u
+  past_deferral MessagePriority =
+      passes deferral_slot priority_slot (λ s x. refl) (λ s y. refl) (λ s x y. refl) s t u
+  past_deferral Indicators = passes deferral_slot indicators_slot (λ s x. refl) (λ s y. refl) (λ s x y. refl) s t u
+  past_deferral TraceList = passes deferral_slot trace_slot (λ s x. refl) (λ s y. refl) (λ s x y. refl) s t u
+  past_deferral ContentIdentifier =
+      passes deferral_slot content_id_slot (λ s x. refl) (λ s y. refl) (λ s x y. refl) s t u
+  past_deferral Deferral = λ m n. absurd (twice_in_field deferral_slot (λ s x. refl) s t u m n)
+  past_deferral Length = passes deferral_slot length_slot (λ s x. refl) (λ s y. refl) (λ s x y. refl) s t u
+  past_deferral Bilateral = passes deferral_slot bilateral_slot (λ s x. refl) (λ s y. refl) (λ s x y. refl) s t u
+  past_deferral RecipientList =
+      passes deferral_slot recipients_slot (λ s x. refl) (λ s y. refl) (λ s x y. refl) s t u
+  past_deferral ExtensionSet = passes deferral_slot extensions_slot (λ s x. refl) (λ s y. refl) (λ s x y. refl) s t u
+
+  -- each component passes the length
+  past_length : (k : EnvelopePart) → Passes Length k
+  past_length Originator = passes length_slot originator_slot (λ s x. refl) (λ s y. refl) (λ s x y. refl) s t u
+  past_length Identifier = passes length_slot id_slot (λ s x. refl) (λ s y. refl) (λ s x y. refl) s t u
+  past_length InformationTypes = passes length_slot eits_slot (λ s x. refl) (λ s y. refl) (λ s x y. refl) s t u
+  past_length ContentType = passes length_slot content_kind_slot (λ s x. refl) (λ s y. refl) (λ s x y. refl) s t u
+  past_length MessagePriority = passes length_slot priority_slot (λ s x. refl) (λ s y. refl) (λ s x y. refl) s t u
+  past_length Indicators = passes length_slot indicators_slot (λ s x. refl) (λ s y. refl) (λ s x y. refl) s t u
+  past_length TraceList = passes length_slot trace_slot (λ s x. refl) (λ s y. refl) (λ s x y. refl) s t u
+  past_length ContentIdentifier =
+      passes length_slot content_id_slot (λ s x. refl) (λ s y. refl) (λ s x y. refl) s t u
+  past_length Deferral = passes length_slot deferral_slot (λ s x. refl) (λ s y. refl) (λ s x y. refl) s t u
+  past_length Length = λ m n. absurd (twice_in_field length_slot (λ s x. refl) s t u m n)
+  past_length Bilateral = passes length_slot bilateral_slot (λ s x. refl) (λ s y. refl) (λ s x y. refl) s t u
+  past_length RecipientList = passes length_slot recipients_slot (λ s x. refl) (λ s y. refl) (λ s x y. refl) s t u
+  past_length ExtensionSet = passes length_slot extensions_slot (λ s x. refl) (λ s y. refl) (λ s x y. refl) s t u
+
+  -- each component passes the bilateral information
+  past_bilateral : (k : EnvelopePart) → Passes Bilateral k
+  past_bilateral Originator = passes bilateral_slot originator_slot (λ s x. refl) (λ s y. refl) (λ s x y. refl) s t u
+  past_bilateral Identifier = passes bilateral_slot id_slot (λ s x. refl) (λ s y. refl) (λ s x y. refl) s t u
+  past_bilateral InformationTypes = passes bilateral_slot eits_slot (λ s x. refl) (λ s y. refl) (λ s x y. refl) s t u
+  past_bilateral ContentType =
+      passes bilateral_slot content_kind_slot (λ s x. refl) (λ s y. refl) (λ s x y. refl) s t u
+  past_bilateral MessagePriority =
+      passes bilateral_slot priority_slot (λ s x. refl) (λ s y. refl) (λ s x y. refl) s t u
+  past_bilateral Indicators = passes bilateral_slot indicators_slot (λ s x. refl) (λ s y. refl) (λ s x y. refl) s t u
+  past_bilateral TraceList = passes bilateral_slot trace_slot (λ s x. refl) (λ s y. refl) (λ s x y. refl) s t u
+  past_bilateral ContentIdentifier =
+      passes bilateral_slot content_id_slot (λ s x. refl) (λ s y. refl) (λ s x y. refl) s t u
+  past_bilateral Deferral = passes bilateral_slot deferral_slot (λ s x. refl) (λ s y. refl) (λ s x y. refl) s t u
+  past_bilateral Length = passes bilateral_slot length_slot (λ s x. refl) (λ s y. refl) (λ s x y. refl) s t u
+  past_bilateral Bilateral = λ m n. absurd (twice_in_field bilateral_slot (λ s x. refl) s t u m n)
+  past_bilateral RecipientList =
+      passes bilateral_slot recipients_slot (λ s x. refl) (λ s y. refl) (λ s x y. refl) s t u
+  past_bilateral ExtensionSet =
+      passes bilateral_slot extensions_slot (λ s x. refl) (λ s y. refl) (λ s x y. refl) s t u
+
+  -- each component passes the recipients
+  past_recipients : (k : EnvelopePart) → Passes RecipientList k
+  past_recipients Originator =
+      passes recipients_slot originator_slot (λ s x. refl) (λ s y. refl) (λ s x y. refl) s t u
+  past_recipients Identifier = passes recipients_slot id_slot (λ s x. refl) (λ s y. refl) (λ s x y. refl) s t u
+  past_recipients InformationTypes =
+      passes recipients_slot eits_slot (λ s x. refl) (λ s y. refl) (λ s x y. refl) s t u
+  past_recipients ContentType =
+      passes recipients_slot content_kind_slot (λ s x. refl) (λ s y. refl) (λ s x y. refl) s t u
+  past_recipients MessagePriority =
+      passes recipients_slot priority_slot (λ s x. refl) (λ s y. refl) (λ s x y. refl) s t u
+  past_recipients Indicators =
+      passes recipients_slot indicators_slot (λ s x. refl) (λ s y. refl) (λ s x y. refl) s t u
+  past_recipients TraceList = passes recipients_slot trace_slot (λ s x. refl) (λ s y. refl) (λ s x y. refl) s t u
+  past_recipients ContentIdentifier =
+      passes recipients_slot content_id_slot (λ s x. refl) (λ s y. refl) (λ s x y. refl) s t u
+  past_recipients Deferral = passes recipients_slot deferral_slot (λ s x. refl) (λ s y. refl) (λ s x y. refl) s t u
+  past_recipients Length = passes recipients_slot length_slot (λ s x. refl) (λ s y. refl) (λ s x y. refl) s t u
+  past_recipients Bilateral = passes recipients_slot bilateral_slot (λ s x. refl) (λ s y. refl) (λ s x y. refl) s t u
+  past_recipients RecipientList = λ m n. absurd (twice_in_field recipients_slot (λ s x. refl) s t u m n)
+  past_recipients ExtensionSet =
+      passes recipients_slot extensions_slot (λ s x. refl) (λ s y. refl) (λ s x y. refl) s t u
+
+  -- each component passes the extensions
+  past_extensions : (k : EnvelopePart) → Passes ExtensionSet k
+  past_extensions Originator =
+      passes extensions_slot originator_slot (λ s x. refl) (λ s y. refl) (λ s x y. refl) s t u
+  past_extensions Identifier = passes extensions_slot id_slot (λ s x. refl) (λ s y. refl) (λ s x y. refl) s t u
+  past_extensions InformationTypes =
+      passes extensions_slot eits_slot (λ s x. refl) (λ s y. refl) (λ s x y. refl) s t u
+  past_extensions ContentType =
+      passes extensions_slot content_kind_slot (λ s x. refl) (λ s y. refl) (λ s x y. refl) s t u
+  past_extensions MessagePriority =
+      passes extensions_slot priority_slot (λ s x. refl) (λ s y. refl) (λ s x y. refl) s t u
+  past_extensions Indicators =
+      passes extensions_slot indicators_slot (λ s x. refl) (λ s y. refl) (λ s x y. refl) s t u
+  past_extensions TraceList = passes extensions_slot trace_slot (λ s x. refl) (λ s y. refl) (λ s x y. refl) s t u
+  past_extensions ContentIdentifier =
+      passes extensions_slot content_id_slot (λ s x. refl) (λ s y. refl) (λ s x y. refl) s t u
+  past_extensions Deferral = passes extensions_slot deferral_slot (λ s x. refl) (λ s y. refl) (λ s x y. refl) s t u
+  past_extensions Length = passes extensions_slot length_slot (λ s x. refl) (λ s y. refl) (λ s x y. refl) s t u
+  past_extensions Bilateral = passes extensions_slot bilateral_slot (λ s x. refl) (λ s y. refl) (λ s x y. refl) s t u
+  past_extensions RecipientList =
+      passes extensions_slot recipients_slot (λ s x. refl) (λ s y. refl) (λ s x y. refl) s t u
+  past_extensions ExtensionSet = λ m n. absurd (twice_in_field extensions_slot (λ s x. refl) s t u m n)
+
+  swapped : (j k : EnvelopePart) → Passes j k
+  swapped Originator = past_originator
+  swapped Identifier = past_id
+  swapped InformationTypes = past_eits
+  swapped ContentType = past_content_kind
+  swapped MessagePriority = past_priority
+  swapped Indicators = past_indicators
+  swapped TraceList = past_trace
+  swapped ContentIdentifier = past_content_id
+  swapped Deferral = past_deferral
+  swapped Length = past_length
+  swapped Bilateral = past_bilateral
+  swapped RecipientList = past_recipients
+  swapped ExtensionSet = past_extensions
 
 -- whether it is a probe stays the same
 probe_kept : (k : EnvelopePart) (depth : ℕ) (s t : EnvelopeParts) (tag : Tag) (content octets : List ℕ)
@@ -422,7 +371,7 @@ pub envelopes_change : ChangePlaces MakesEnvelope
 envelopes_change depth s t u a b h k =
     let m = h.made in
     let n = k.made in
-    let w = swapped m.part n.part depth s t u h.tag h.content a k.tag k.content b m.made n.made in (
+    let w = swapped depth s t u h.tag h.content a k.tag k.content b m.part n.part m.made n.made in (
       w.0,
       record {
         tag = k.tag;

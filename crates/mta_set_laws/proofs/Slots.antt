@@ -36,6 +36,15 @@ twice a holds s t m g =
     let e : true ≡ false = sym (holds s m.value) ∙ subst (λ r. a.held r ≡ false) m.after_is g in
     cc e
 
+-- one component passes another
+pub passes_slot : {S X Y : Type 0} {P : X → Type 0} {Q : Y → Type 0} (a : Slot S X) (b : Slot S Y)
+    → ((s : S) (x : X) → b.held (a.put s x) ≡ b.held s) → ((s : S) (y : Y) → a.held (b.put s y) ≡ a.held s)
+    → ((s : S) (x : X) (y : Y) → b.put (a.put s x) y ≡ a.put (b.put s y) x) → (s t u : S)
+    → Puts P (a.put s) t → Puts Q (b.put t) u → a.held s ≡ false → b.held t ≡ false
+    → (between : S) × Puts Q (b.put s) between × (b.held s ≡ false) × Puts P (a.put between) u
+    × (a.held between ≡ false)
+passes_slot a b unseen unseen' apart s t u m n f g = moved a b (unseen, unseen', apart) s t u m n f g
+
 -- the same of places that are looked into
 pub record Field (S X : Type 0) : Type 0 where
   pub put : S → X → S
@@ -78,3 +87,11 @@ twice_in_field {S} {X} a holds s t u m n =
     let e : ◌≡◌ {A = Option X} (Some m.1.value) None = sym (holds s m.1.value)
     ∙ subst (λ r. a.get r ≡ None) m.1.after_is n.0 in
     cc e
+
+pub passes : {S X Y : Type 0} {P : X → Type 0} {Q : Y → Type 0} (a : Field S X) (b : Field S Y)
+    → ((s : S) (x : X) → b.get (a.put s x) ≡ b.get s) → ((s : S) (y : Y) → a.get (b.put s y) ≡ a.get s)
+    → ((s : S) (x : X) (y : Y) → b.put (a.put s x) y ≡ a.put (b.put s y) x) → (s t u : S)
+    → (a.get s ≡ None) × Puts P (a.put s) t → (b.get t ≡ None) × Puts Q (b.put t) u
+    → (between : S) × ((b.get s ≡ None) × Puts Q (b.put s) between)
+    × ((a.get between ≡ None) × Puts P (a.put between) u)
+passes a b unseen unseen' apart s t u m n = moved_field a b (unseen, unseen', apart) s t u m n

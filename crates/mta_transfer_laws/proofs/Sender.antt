@@ -121,6 +121,21 @@ record Leaves (w v : World) : Type 0 where
   opened : w.opened ≤ v.opened
   sends : (j : ℕ) → j < w.opened → (v.links j).send ≡ (w.links j).send
 
+-- what left the sender's part as it was, field by field
+leaves : {w v : World} → v.state ≡ w.state → v.octets ≡ w.octets → v.size ≡ w.size
+    → v.window ≡ w.window → v.send_link ≡ w.send_link → w.opened ≤ v.opened
+    → ((j : ℕ) → j < w.opened → (v.links j).send ≡ (w.links j).send) → Leaves w v
+leaves state octets size window newest opened sends =
+    record {
+      state = state;
+      octets = octets;
+      size = size;
+      window = window;
+      newest = newest;
+      opened = opened;
+      sends = sends;
+    }
+
 whole-same : (a b : SendState) (c d m n : ℕ) (p q : SendPart) (o : List ℕ) → a ≡ b → c ≡ d → m ≡ n → p ≡ q
     → with_octets o (record {
       state = a;
@@ -419,172 +434,53 @@ keeps w (Here j e) (x.Sender_makes i st ∷ es) f r g =
 keeps w own (x.Sender_gives_up ∷ es) f r g =
     let d : x.SenderAllows w x.Sender_gives_up × Rel (step.given_up w) (give_up own) = given w own g r.0 in
     (d.0, keeps (step.given_up w) (give_up own) es f.1 r.1 d.1)
-keeps w own (x.Receiver_opens i ∷ es) f r g = (
-  tt,
-  keeps (after w (x.Receiver_opens i)) own es f.1 r
-      (left w (after w (x.Receiver_opens i)) own
-      (record {
-        state = refl;
-        octets = refl;
-        size = refl;
-        window = refl;
-        newest = refl;
-        opened = omega arith;
-        sends = λ j lt. set-other w.links w.opened j _ (λ (l : Link). l.send ≡ (w.links j).send)
-            (λ e. absurd (omega (arith, e, lt))) (λ n. refl);
-      }) g),
-)
-keeps w own (x.Receiver_joins i ∷ es) f r g = (
-  tt,
-  keeps (after w (x.Receiver_joins i)) own es f.1 r
-      (left w (after w (x.Receiver_joins i)) own
-      (record {
-        state = refl;
-        octets = refl;
-        size = refl;
-        window = refl;
-        newest = refl;
-        opened = omega arith;
-        sends = λ j lt. kept-send w.links i j _ refl;
-      }) g),
-)
-keeps w own (x.Receiver_takes i y ∷ es) f r g = (
-  tt,
-  keeps (after w (x.Receiver_takes i y)) own es f.1 r
-      (left w (after w (x.Receiver_takes i y)) own
-      (record {
-        state = refl;
-        octets = refl;
-        size = refl;
-        window = refl;
-        newest = refl;
-        opened = omega arith;
-        sends = λ j lt. kept-send w.links i j _ refl;
-      }) g),
-)
-keeps w own (x.Receiver_puts i y ∷ es) f r g = (
-  tt,
-  keeps (after w (x.Receiver_puts i y)) own es f.1 r
-      (left w (after w (x.Receiver_puts i y)) own
-      (record {
-        state = refl;
-        octets = refl;
-        size = refl;
-        window = refl;
-        newest = refl;
-        opened = omega arith;
-        sends = λ j lt. kept-send w.links i j _ refl;
-      }) g),
-)
-keeps w own (x.Receiver_makes i st ∷ es) f r g = (
-  tt,
-  keeps (after w (x.Receiver_makes i st)) own es f.1 r
-      (left w (after w (x.Receiver_makes i st)) own
-      (record {
-        state = refl;
-        octets = refl;
-        size = refl;
-        window = refl;
-        newest = refl;
-        opened = omega arith;
-        sends = λ j lt. kept-send w.links i j _ refl;
-      }) g),
-)
-keeps w own (x.Receiver_finds i k n piece ∷ es) f r g = (
-  tt,
-  keeps (after w (x.Receiver_finds i k n piece)) own es f.1 r
-      (left w (after w (x.Receiver_finds i k n piece)) own
-      (record {
-        state = refl;
-        octets = refl;
-        size = refl;
-        window = refl;
-        newest = refl;
-        opened = omega arith;
-        sends = λ j lt. kept-send w.links i j _ refl;
-      }) g),
-)
-keeps w own (x.Loses_up i n ∷ es) f r g = (
-  tt,
-  keeps (after w (x.Loses_up i n)) own es f.1 r
-      (left w (after w (x.Loses_up i n)) own
-      (record {
-        state = refl;
-        octets = refl;
-        size = refl;
-        window = refl;
-        newest = refl;
-        opened = omega arith;
-        sends = λ j lt. kept-send w.links i j _ refl;
-      }) g),
-)
-keeps w own (x.Loses_down i n ∷ es) f r g = (
-  tt,
-  keeps (after w (x.Loses_down i n)) own es f.1 r
-      (left w (after w (x.Loses_down i n)) own
-      (record {
-        state = refl;
-        octets = refl;
-        size = refl;
-        window = refl;
-        newest = refl;
-        opened = omega arith;
-        sends = λ j lt. kept-send w.links i j _ refl;
-      }) g),
-)
-keeps w own (x.Sender_stops i ∷ es) f r g = (
-  tt,
-  keeps (after w (x.Sender_stops i)) own es f.1 r
-      (left w (after w (x.Sender_stops i)) own
-      (record {
-        state = refl;
-        octets = refl;
-        size = refl;
-        window = refl;
-        newest = refl;
-        opened = omega arith;
-        sends = λ j lt. kept-send w.links i j _ refl;
-      }) g),
-)
-keeps w own (x.Receiver_stops i ∷ es) f r g = (
-  tt,
-  keeps (after w (x.Receiver_stops i)) own es f.1 r
-      (left w (after w (x.Receiver_stops i)) own
-      (record {
-        state = refl;
-        octets = refl;
-        size = refl;
-        window = refl;
-        newest = refl;
-        opened = omega arith;
-        sends = λ j lt. kept-send w.links i j _ refl;
-      }) g),
-)
-keeps w own (x.Sender_crashes ∷ es) f r g = (
-  tt,
-  keeps (after w x.Sender_crashes) own es f.1 r
-      (left w (after w x.Sender_crashes) own
-      (record {
-        state = refl;
-        octets = refl;
-        size = refl;
-        window = refl;
-        newest = refl;
-        opened = omega arith;
-        sends = λ j lt. refl;
-      }) g),
-)
-keeps w own (x.Receiver_crashes ∷ es) f r g = (
-  tt,
-  keeps (after w x.Receiver_crashes) own es f.1 r
-      (left w (after w x.Receiver_crashes) own
-      (record {
-        state = refl;
-        octets = refl;
-        size = refl;
-        window = refl;
-        newest = refl;
-        opened = omega arith;
-        sends = λ j lt. refl;
-      }) g),
-)
+keeps w own (x.Receiver_opens i ∷ es) f r g =
+    let v : World = after w (x.Receiver_opens i) in
+    let l : Leaves w v = leaves refl refl refl refl refl (omega arith)
+    (λ j lt. set-other w.links w.opened j _ (λ (l : Link). l.send ≡ (w.links j).send)
+    (λ e. absurd (omega (arith, e, lt))) (λ n. refl)) in
+    (tt, keeps v own es f.1 r (left w v own l g))
+keeps w own (x.Receiver_joins i ∷ es) f r g =
+    let v : World = after w (x.Receiver_joins i) in
+    let l : Leaves w v = leaves refl refl refl refl refl (omega arith) (λ j lt. kept-send w.links i j _ refl) in
+    (tt, keeps v own es f.1 r (left w v own l g))
+keeps w own (x.Receiver_takes i y ∷ es) f r g =
+    let v : World = after w (x.Receiver_takes i y) in
+    let l : Leaves w v = leaves refl refl refl refl refl (omega arith) (λ j lt. kept-send w.links i j _ refl) in
+    (tt, keeps v own es f.1 r (left w v own l g))
+keeps w own (x.Receiver_puts i y ∷ es) f r g =
+    let v : World = after w (x.Receiver_puts i y) in
+    let l : Leaves w v = leaves refl refl refl refl refl (omega arith) (λ j lt. kept-send w.links i j _ refl) in
+    (tt, keeps v own es f.1 r (left w v own l g))
+keeps w own (x.Receiver_makes i st ∷ es) f r g =
+    let v : World = after w (x.Receiver_makes i st) in
+    let l : Leaves w v = leaves refl refl refl refl refl (omega arith) (λ j lt. kept-send w.links i j _ refl) in
+    (tt, keeps v own es f.1 r (left w v own l g))
+keeps w own (x.Receiver_finds i k n piece ∷ es) f r g =
+    let v : World = after w (x.Receiver_finds i k n piece) in
+    let l : Leaves w v = leaves refl refl refl refl refl (omega arith) (λ j lt. kept-send w.links i j _ refl) in
+    (tt, keeps v own es f.1 r (left w v own l g))
+keeps w own (x.Loses_up i n ∷ es) f r g =
+    let v : World = after w (x.Loses_up i n) in
+    let l : Leaves w v = leaves refl refl refl refl refl (omega arith) (λ j lt. kept-send w.links i j _ refl) in
+    (tt, keeps v own es f.1 r (left w v own l g))
+keeps w own (x.Loses_down i n ∷ es) f r g =
+    let v : World = after w (x.Loses_down i n) in
+    let l : Leaves w v = leaves refl refl refl refl refl (omega arith) (λ j lt. kept-send w.links i j _ refl) in
+    (tt, keeps v own es f.1 r (left w v own l g))
+keeps w own (x.Sender_stops i ∷ es) f r g =
+    let v : World = after w (x.Sender_stops i) in
+    let l : Leaves w v = leaves refl refl refl refl refl (omega arith) (λ j lt. kept-send w.links i j _ refl) in
+    (tt, keeps v own es f.1 r (left w v own l g))
+keeps w own (x.Receiver_stops i ∷ es) f r g =
+    let v : World = after w (x.Receiver_stops i) in
+    let l : Leaves w v = leaves refl refl refl refl refl (omega arith) (λ j lt. kept-send w.links i j _ refl) in
+    (tt, keeps v own es f.1 r (left w v own l g))
+keeps w own (x.Sender_crashes ∷ es) f r g =
+    let v : World = after w x.Sender_crashes in
+    let l : Leaves w v = leaves refl refl refl refl refl (omega arith) (λ j lt. refl) in
+    (tt, keeps v own es f.1 r (left w v own l g))
+keeps w own (x.Receiver_crashes ∷ es) f r g =
+    let v : World = after w x.Receiver_crashes in
+    let l : Leaves w v = leaves refl refl refl refl refl (omega arith) (λ j lt. refl) in
+    (tt, keeps v own es f.1 r (left w v own l g))

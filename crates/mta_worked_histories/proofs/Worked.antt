@@ -1,7 +1,7 @@
 -- Worked histories, by computation.
 use Rattle.std.proofs.Common.{◌≡◌, ℕ, zero, suc, ◌<◌, true, false, List, [], ◌∷◌, Some, nat_lt, refl}
 use Rattle.std.proofs.Common.{ap, ◌∙◌, ◌≤◌, ◌^◌, arith}
-use Rattle.std.specs.Prelude.{Bool}
+use Rattle.std.specs.Prelude.{Bool, length}
 use Rattle.std.specs.List.{list_all}
 use Rattle.std.proofs.lemmas.Bool.{and_parts, ltb-true}
 use Rattle.mta_ber.specs.Octet.{IsOctets}
@@ -10,11 +10,14 @@ use Rattle.mta_apdu.proofs.ApduLaws.{apdu_sound}
 use Rattle.mta_envelope.specs.Contents.{content_as}
 use Rattle.mta_envelope.specs.Messages.{message_as}
 use Rattle.mta_machine.specs.Apdu.{IsApdu}
-use Rattle.mta_histories.specs.History.{IsHistory, IsPossible, after}
+use Rattle.mta_histories.specs.Classes.{class_of}
+use Rattle.mta_histories.specs.History.{IsHistory, IsPossible, StepNeeds, MachineNeeds, after, after_step, when}
+use Rattle.mta_histories.specs.Lanes.{State}
 use Rattle.mta_histories.proofs.Dues.{of-one}
 use Rattle.mta_procedures.specs.Rows.{sample, posted}
 use Rattle.mta_worked_histories.specs.Cases.{plain_text, lists_text, peer_text, to_watt, to_list}
 use Rattle.jiff_core.specs.Calendar.{days_from_civil, day_count, days_of_years, days_of_months}
+use Rattle.mta_records.specs.declared.step.Step.{Step}
 use Rattle.mta_records.specs.declared.step.Step.TheVariants as made
 use Rattle.mta_lane_send.specs.declared.state.SendState.{SendState}
 use Rattle.mta_lane_send.specs.declared.state.SendState.TheVariants.{Sending}
@@ -143,6 +146,13 @@ at_once a b e = omega (arith, e)
 
 few : (n : ℕ) → nat_lt n 4 ≡ true → n < 2 ^ 32
 few n e = let small : n < 4 = ltb-true n 4 e in omega (arith, small)
+
+-- a step that is allowed is possible where it is in time and items are few
+possible : {s : State} {step : Step} → StepNeeds s (class_of step) (when s step)
+    → MachineNeeds s (class_of step) (when s step) → s.moment ≤ when s step
+    → length (after_step s step).machine.items < 2 ^ 32 → IsPossible s step
+possible allowed as_machine timely numbers =
+    record { allowed = allowed; as_machine = as_machine; timely = timely; numbers = numbers }
 
 to_list_is : IsApdu to_list
 unfolding value_in attribute_step attribute_parts_in attribute_in extension_step extensions_in country_choice
@@ -373,88 +383,56 @@ unfolding value_in attribute_step attribute_parts_in attribute_in extension_step
     mailbox_word route_word verdict_of is_expired delivery_report non_delivery_report expansion accepted_in passed_back
     outgoing_copy days_from_civil day_count days_of_years days_of_months plain_text lists_text peer_text to_watt to_list
 sent_possible = (
-  record { allowed = refl; as_machine = tt; timely = at_once _ _ refl; numbers = few _ refl },
+  possible refl tt (at_once _ _ refl) (few _ refl),
   (
-    record {
-      allowed = tt;
-      as_machine = (to_watt_is, (λ e. absurd cc), at_once _ _ refl);
-      timely = at_once _ _ refl;
-      numbers = few _ refl;
-    },
+    possible tt (to_watt_is, (λ e. absurd cc), at_once _ _ refl) (at_once _ _ refl) (few _ refl),
     (
-      record {
-        allowed = record {
-          named = refl;
-          room = omega arith;
-          new = tt;
-          number = omega arith;
-          checkpoint_fits =
-              omega arith;
-          window_fits = (omega arith, omega arith);
-        };
-        as_machine = tt;
-        timely = at_once _ _ refl;
-        numbers =
-            few _ refl;
-      },
+      possible
+          (record {
+            named = refl;
+            room = omega arith;
+            new = tt;
+            number = omega arith;
+            checkpoint_fits = omega arith;
+            window_fits = (omega arith, omega arith);
+          }) tt (at_once _ _ refl) (few _ refl),
       (
-        record {
-          allowed = record {
-            lane = _;
-            lane_is = refl;
-            current = refl;
-            needs =
-                (refl, refl, omega arith, omega arith, omega arith);
-          };
-          as_machine = tt;
-          timely = at_once _ _ refl;
-          numbers =
-              few _ refl;
-        },
-        (
-          record {
-            allowed = record {
+        possible
+            (record {
               lane = _;
               lane_is = refl;
               current = refl;
-              needs =
-                  record {
-                    agreed = refl;
-                    idle = refl;
-                    next = refl;
-                    some_recipients = λ e. absurd cc;
-                    different =
-                        (refl, tt);
-                    pending = of-one _ 1 refl;
-                    free = of-one _ 1 refl;
-                    relayed = of-one _ 1 refl;
-                    text = _;
-                    text_is = refl;
-                    item = _;
-                    item_is = refl;
-                    copy = _;
-                    copy_is = refl;
-                  };
-            };
-            as_machine = tt;
-            timely =
-                at_once _ _ refl;
-            numbers = few _ refl;
-          },
+              needs = (refl, refl, omega arith, omega arith, omega arith);
+            }) tt (at_once _ _ refl) (few _ refl),
+        (
+          possible
+              (record {
+                lane = _;
+                lane_is = refl;
+                current = refl;
+                needs = record {
+                  agreed = refl;
+                  idle = refl;
+                  next = refl;
+                  some_recipients = λ e. absurd cc;
+                  different = (refl, tt);
+                  pending = of-one _ 1 refl;
+                  free = of-one _ 1 refl;
+                  relayed = of-one _ 1 refl;
+                  text = _;
+                  text_is = refl;
+                  item = _;
+                  item_is = refl;
+                  copy = _;
+                  copy_is = refl;
+                };
+              }) tt (at_once _ _ refl) (few _ refl),
           (
-            record {
-              allowed = record { lane = _; lane_is = refl; current = refl; needs = refl };
-              as_machine = tt;
-              timely = at_once _ _ refl;
-              numbers = few _ refl;
-            },
+            possible (record { lane = _; lane_is = refl; current = refl; needs = refl }) tt (at_once _ _ refl)
+                (few _ refl),
             (
-              record {
-                allowed = record { lane = _; lane_is = refl; current = refl; needs = refl };
-                as_machine = tt;
-                timely = at_once _ _ refl;
-                numbers = few _ refl;
-              },
+              possible (record { lane = _; lane_is = refl; current = refl; needs = refl }) tt (at_once _ _ refl)
+                  (few _ refl),
               tt,
             ),
           ),
