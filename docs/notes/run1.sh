@@ -1,9 +1,0 @@
-#!/bin/bash
-# run1.sh TREE BUILD NAME..: runs one kept build of programs and compares with stdout
-tree=$1; b=$2; shift 2
-for p in "$@"; do d=$(ls -td /opt/rattle-kept/proof-$p-* | head -1); cp $d/$b /tmp/run_$p.$b; chmod +x /tmp/run_$p.$b
- mkdir -p /tmp/rundir; cd /tmp/rundir; a=(); [ -f $tree/crates/$p/args ] && mapfile -t a < $tree/crates/$p/args
- i=/dev/null; [ -f $tree/crates/$p/stdin ] && i=$tree/crates/$p/stdin
- /usr/bin/time -f %es:%Us timeout 500 /tmp/run_$p.$b "${a[@]}" < $i > /tmp/$p.$b.out 2>/tmp/$p.$b.err; echo "$p $b status $? $(tail -1 /tmp/$p.$b.err)"
- o=/dev/null; [ -f $tree/crates/$p/stdout ] && o=$tree/crates/$p/stdout
- diff /tmp/$p.$b.out $o > /tmp/$p.$b.diff && echo same || { echo DIFFERENT; head -8 /tmp/$p.$b.diff; }; done
