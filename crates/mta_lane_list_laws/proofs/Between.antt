@@ -1,6 +1,6 @@
 -- The steps of a session's list stand one behind the other, behind the step that begins it.
 use Rattle.std.proofs.Common.{◌≡◌, ◌≤◌, ℕ, ◌+◌, ◌-◌, ◌==◌, if◌then◌else◌, Bool, true, false, Option, Some, None}
-use Rattle.std.proofs.Common.{List, [], ◌∷◌, ◌++◌, refl, sym, ap, subst, ◌∙◌, append_assoc, append-nil, arith}
+use Rattle.std.proofs.Common.{List, [], ◌∷◌, ◌++◌, refl, sym, ap, subst, ◌∙◌, append_assoc, arith}
 use Rattle.mta_units.specs.declared.unit.Unit.{Unit as AnyUnit}
 use Rattle.mta_lane_send.specs.Half.{last_of}
 use Rattle.mta_transfer_rules.specs.Lanes as h
@@ -30,11 +30,11 @@ use Rattle.mta_session_list_laws.specs.Abandons.{with_abandons}
 use Rattle.mta_session_list_laws.specs.Calls.{action_of, Call, come_of, event_of, got_as, list_of, look_told, step_told}
 use Rattle.mta_session_list_laws.specs.Calls.{StepOn, told_as}
 use Rattle.mta_session_list_laws.specs.Lists.{completed, end_begun, Initiates, Responds}
-use Rattle.mta_session_list_laws.specs.Lost.{abort_of, Lost, lost_of, seen_of, stopped, tail_of}
+use Rattle.mta_session_list_laws.specs.Over.{abort_of, came_of, list_over, Over, seen_of, tail_of, untold_of}
 use Rattle.mta_session_list_laws.specs.Standing.{AllComeTrue, ComesTrue, StandsAs}
 use Rattle.mta_session_list_laws.proofs.Found.{kept, Placed, placed, placed_upto}
 use Rattle.mta_session_list_laws.proofs.Insertion.{none_received, own}
-use Rattle.mta_lane_list_laws.specs.Between.{ListsStandBetween, StoppedListsStandBetween}
+use Rattle.mta_lane_list_laws.specs.Between.{IsSeen, ListsStandBetween}
 use Rattle.mta_lane_list_laws.specs.Turns.{ReceivesBetween, SendsBetween, StandsBetween}
 
 -- ---- steps and looks, one behind the other
@@ -91,26 +91,22 @@ module _ (spells : List ℕ → Bool) (history : List Seen) where
   abort_stand low upto true le = le
   abort_stand low upto false le = le
 
-  pub tail_stand : (low from : ℕ) (p : Phase) (a : Action) (y : Lost) → low ≤ from
-      → ComesTrue spells history from y.seen p a y.event → StandUpto low y.seen (tail_of a y)
-  tail_stand low from p a y le is = by_event a y.event le is
-    where
-      by_event : (a : Action) (e : Event) → low ≤ from → ComesTrue spells history from y.seen p a e
-          → StandUpto low y.seen (lost_of a y.seen e ++ abort_of y.aborts)
-      by_event (action.Put u) e le is = abort_stand low y.seen y.aborts (omega (arith, le, is))
-      by_event action.Read (event.Unit u) le is = abort_stand low y.seen y.aborts (omega (arith, le, is))
-      by_event action.Read event.Go le is = abort_stand low y.seen y.aborts (omega (arith, le, is))
-      by_event action.Read event.BadUnit le is = abort_stand low y.seen y.aborts (omega (arith, le, is))
-      by_event action.Read event.Over le is = abort_stand low y.seen y.aborts (omega (arith, le, is))
-      by_event action.Read (event.Reply z) le is = abort_stand low y.seen y.aborts (omega (arith, le, is))
-      by_event (action.Ask q) (event.Reply z) le is =
-          told_stand low from y.seen y.seen q z (step_told q z) (look_told q z) (abort_of y.aborts) le is.1
-          (λ to more. abort_stand to y.seen y.aborts more)
-      by_event (action.Ask q) event.Go le is = abort_stand low y.seen y.aborts (omega (arith, le, is))
-      by_event (action.Ask q) event.BadUnit le is = abort_stand low y.seen y.aborts (omega (arith, le, is))
-      by_event (action.Ask q) event.Over le is = abort_stand low y.seen y.aborts (omega (arith, le, is))
-      by_event (action.Ask q) (event.Unit u) le is = abort_stand low y.seen y.aborts (omega (arith, le, is))
-      by_event (action.Finish z) e le is = abort_stand low y.seen y.aborts (omega (arith, le, is))
+  came_stand : (low from seen : ℕ) (p : Phase) (aborts : Bool) (a : Action) (e : Event) → low ≤ from
+      → ComesTrue spells history from seen p a e → StandUpto low seen (came_of a seen e ++ abort_of aborts)
+  came_stand low from seen p aborts (action.Put u) e le is = abort_stand low seen aborts (omega (arith, le, is))
+  came_stand low from seen p aborts action.Read (event.Unit u) le is =
+      abort_stand low seen aborts (omega (arith, le, is))
+  came_stand low from seen p aborts action.Read any6 le is = abort_stand low seen aborts (omega (arith, le, is))
+  came_stand low from seen p aborts (action.Ask q) (event.Reply z) le is =
+      told_stand low from seen seen q z (step_told q z) (look_told q z) (abort_of aborts) le is.1
+      (λ to more. abort_stand to seen aborts more)
+  came_stand low from seen p aborts (action.Ask q) any6 le is = abort_stand low seen aborts (omega (arith, le, is))
+  came_stand low from seen p aborts (action.Finish z) e le is = abort_stand low seen aborts (omega (arith, le, is))
+
+  pub tail_stand : (low from seen : ℕ) (p : Phase) (aborts : Bool) (a : Action) (o : Option Event) → low ≤ from
+      → IsSeen spells history from seen p a o → StandUpto low seen (untold_of a seen o ++ abort_of aborts)
+  tail_stand low from seen p aborts a None le is = abort_stand low seen aborts (omega (arith, le, is))
+  tail_stand low from seen p aborts a (Some e) le is = came_stand low from seen p aborts a e le is
 
 -- it is so from each earlier length on
 sooner : (low from upto : ℕ) (ys : List SessionEvent) → low ≤ from → StandUpto from upto ys → StandUpto low upto ys
@@ -275,46 +271,20 @@ pub action_more : (a : Action) (before cs : List Call) (c : Call)
 action_more a [] cs c = refl
 action_more a (d ∷ ds) cs c = action_more d.turn.action ds cs c
 
-list_stands : (spells : List ℕ → Bool) (history : List Seen) (cs : List Call) (from : ℕ) (a : Action)
-    → AllComeTrue spells history from a cs → StandUpto from (seen_of from cs) (list_of a cs)
-list_stands spells history cs from a is =
-    subst (StandUpto from (seen_of from cs)) (append-nil (list_of a cs))
-    (calls_then spells history cs [] from from (seen_of from cs) a (omega arith) is (λ low le. le))
+over_stands : (spells : List ℕ → Bool) (history : List Seen) (cs : List Call) (from : ℕ) (a : Action) (p : Phase)
+    (y : Over) → AllComeTrue spells history from a cs
+    → IsSeen spells history (seen_of from cs) y.seen p (action_of a cs) y.untold
+    → StandUpto from y.seen (list_of a cs ++ tail_of (action_of a cs) y)
+over_stands spells history cs from a p y is last =
+    calls_then spells history cs (tail_of (action_of a cs) y) from from y.seen a (omega arith) is
+    (λ low le. tail_stand spells history low (seen_of from cs) y.seen p y.aborts (action_of a cs) y.untold le last)
 
 pub lists_stand_between : ListsStandBetween
-lists_stand_between spells history _ calls _ size window initiator _ (Initiates p units at _ has is) =
-    stand_between history p.lane size window (seen_of (at + 1) calls) initiator
-    (record { opening = []; at = at; events = list_of action.Read calls })
-    (list_stands spells history calls (at + 1) action.Read is)
-lists_stand_between spells history _ _ _ size window initiator _
-    (Responds own units at before calls c step by seen has is) =
-    let l : SessionList = record {
-      opening = list_of action.Read before;
-      at = at;
-      events = list_of c.turn.action calls;
-    } in
-    let last : seen_of (at + 1) calls ≡ seen_of (at + 1) (before ++ c ∷ calls) =
-    ap (λ (n : ℕ). seen_of n calls) (sym seen) ∙ sym (seen_more (at + 1) 0 before calls c) in
-    subst
-    (λ (n : ℕ). StandsBetween c.turn.after.lane at n (completed history c.turn.after.lane size window initiator l)) last
-    (stand_between history c.turn.after.lane size window (seen_of (at + 1) calls) initiator l
-    (list_stands spells history calls (at + 1) c.turn.action is))
-
-stopped_stands : (spells : List ℕ → Bool) (history : List Seen) (cs : List Call) (from : ℕ) (a : Action) (p : Phase)
-    (y : Lost) → AllComeTrue spells history from a cs
-    → ComesTrue spells history (seen_of from cs) y.seen p (action_of a cs) y.event
-    → StandUpto from y.seen (list_of a cs ++ tail_of (action_of a cs) y)
-stopped_stands spells history cs from a p y is last =
-    calls_then spells history cs (tail_of (action_of a cs) y) from from y.seen a (omega arith) is
-    (λ low le. tail_stand spells history low (seen_of from cs) p (action_of a cs) y le last)
-
-pub stopped_lists_stand_between : StoppedListsStandBetween
-stopped_lists_stand_between spells history _ calls _ size window initiator _ p y (Initiates plan units at _ has is)
-    last =
+lists_stand_between spells history _ calls _ size window initiator _ p y (Initiates plan units at _ has is) last =
     stand_between history plan.lane size window y.seen initiator
-    (stopped calls (record { opening = []; at = at; events = list_of action.Read calls }) y)
-    (stopped_stands spells history calls (at + 1) action.Read p y is last)
-stopped_lists_stand_between spells history _ _ _ size window initiator _ p y
+    (list_over calls (record { opening = []; at = at; events = list_of action.Read calls }) y)
+    (over_stands spells history calls (at + 1) action.Read p y is last)
+lists_stand_between spells history _ _ _ size window initiator _ p y
     (Responds own units at before calls c step by seen has is) last =
     let whole : List Call = before ++ c ∷ calls in
     let l : SessionList = record {
@@ -325,9 +295,9 @@ stopped_lists_stand_between spells history _ _ _ size window initiator _ p y
     let wanted : action_of action.Read whole ≡ action_of c.turn.action calls = action_more action.Read before calls c in
     let from : seen_of (at + 1) whole ≡ seen_of (at + 1) calls =
     seen_more (at + 1) 0 before calls c ∙ ap (λ (n : ℕ). seen_of n calls) seen in
-    let there : ComesTrue spells history (seen_of (at + 1) calls) y.seen p (action_of c.turn.action calls) y.event =
-    subst (λ (a : Action). ComesTrue spells history (seen_of (at + 1) calls) y.seen p a y.event) wanted
-    (subst (λ (n : ℕ). ComesTrue spells history n y.seen p (action_of action.Read whole) y.event) from last) in
-    stand_between history c.turn.after.lane size window y.seen initiator (stopped whole l y)
+    let there : IsSeen spells history (seen_of (at + 1) calls) y.seen p (action_of c.turn.action calls) y.untold =
+    subst (λ (a : Action). IsSeen spells history (seen_of (at + 1) calls) y.seen p a y.untold) wanted
+    (subst (λ (n : ℕ). IsSeen spells history n y.seen p (action_of action.Read whole) y.untold) from last) in
+    stand_between history c.turn.after.lane size window y.seen initiator (list_over whole l y)
     (subst (λ (a : Action). StandUpto (at + 1) y.seen (list_of c.turn.action calls ++ tail_of a y)) (sym wanted)
-    (stopped_stands spells history calls (at + 1) c.turn.action p y is there))
+    (over_stands spells history calls (at + 1) c.turn.action p y is there))

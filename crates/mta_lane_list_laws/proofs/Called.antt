@@ -11,7 +11,7 @@ use Rattle.mta_histories.specs.History.{IsHistory}
 use Rattle.mta_lane_match_laws.specs.Generations.{BeginsAt}
 use Rattle.mta_transfer_laws.specs.Clause.{OneStationAgrees}
 use Rattle.mta_transfer_laws.specs.Run.{SessionsAgree}
-use Rattle.mta_session_list_laws.specs.Laws.{ListsAreGood, ListsMayStop}
+use Rattle.mta_session_list_laws.specs.Laws.{ListsAreGood}
 use Rattle.mta_shared.specs.Counts.{times}
 use Rattle.mta_worker_list_laws.specs.All.{all_of, AllParts, EachInTurn, roles_at, StationParts}
 use Rattle.mta_worker_list_laws.specs.Histories.{whole}
@@ -243,9 +243,9 @@ have_behind ss parts behind lane have s on (inl is) has lane_is =
     let both : ◌≡◌ {A = Option OnLane} None (Some on) = sym (ap (λ (z : Segment). z.list) is) ∙ has in absurd cc
 have_behind ss parts behind lane have s on (inr one) has lane_is = have s on one has lane_is
 
-pub called_lanes_agree : ListsAreGood → ListsMayStop → SessionsAgree → OneStationAgrees → {L : Type 0}
+pub called_lanes_agree : ListsAreGood → SessionsAgree → OneStationAgrees → {L : Type 0}
     (links : LinkView L) → CalledLanesOfStationsAgree links
-called_lanes_agree good may_stop whole_agree agree links spells first entries low all tells possible others lane size
+called_lanes_agree good whole_agree agree links spells first entries low all tells possible others lane size
     window was values before added cut from_is =
     let st = the_station links spells first entries possible lane was (length first + low) all.by_station all.turns
     others in
@@ -257,7 +257,7 @@ called_lanes_agree good may_stop whole_agree agree links spells first entries lo
       station = st.station;
       have = have;
       steps =
-          on_side good may_stop whole_agree agree links spells first entries low all tells possible lane size window
+          on_side good whole_agree agree links spells first entries low all tells possible lane size window
           st.served st.parts
           (within links spells first entries possible lane was low all st.served st.station) have
           (each_began links spells first entries low all lane st.served have

@@ -8,9 +8,7 @@ use Rattle.mta_links.specs.Links.{LinkView}
 use Rattle.mta_transfer_rules.specs.Lanes as h
 use Rattle.mta_transfer_rules.specs.Lanes.{Elsewhere, LanesAllow, On, Seen, SeenStep}
 use Rattle.mta_transfer_rules.specs.Receiving as r
-use Rattle.mta_transfer_rules.specs.Receiving.{RecvEvent}
 use Rattle.mta_transfer_rules.specs.Sending as s
-use Rattle.mta_transfer_rules.specs.Sending.{SendEvent}
 use Rattle.mta_records.specs.declared.step.Step.{Step}
 use Rattle.mta_histories.specs.History.{IsHistory}
 use Rattle.mta_lane_match_laws.specs.Generations.{Begins as BeginsHere, BeginsAt}
@@ -23,7 +21,7 @@ use Rattle.mta_transfer_laws.specs.Run.{EachGood, SessionsAgree}
 use Rattle.mta_transfer_laws.specs.Sendings as sending
 use Rattle.mta_transfer_laws.specs.Sessions.{Made, receiving_step_of, sending_step_of, SessionEvent, SessionList}
 use Rattle.mta_session.specs.State.{is_initiator}
-use Rattle.mta_session_list_laws.specs.Laws.{IsIn, ListsAreGood, ListsMayStop}
+use Rattle.mta_session_list_laws.specs.Laws.{IsIn, ListsAreGood}
 use Rattle.mta_session_list_laws.specs.Lists.{AreValues}
 use Rattle.mta_worker_list_laws.specs.Agreeing.{AreListsIn}
 use Rattle.mta_worker_list_laws.specs.All.{all_of, AllParts, StationParts}
@@ -495,7 +493,7 @@ of_all ss (x ∷ xs) s i one =
       | inr more ↦ one_back s x (all_of xs) (of_all ss xs s more one)
     ]
 
-pub on_side : ListsAreGood → ListsMayStop → SessionsAgree → OneStationAgrees → {L : Type 0} (links : LinkView L)
+pub on_side : ListsAreGood → SessionsAgree → OneStationAgrees → {L : Type 0} (links : LinkView L)
     (spells : List ℕ → Bool) (first entries : List Step) (low : ℕ) (all : AllParts links spells first entries low)
     → TellsApdus spells → IsHistory (first ++ entries) → (lane size window : ℕ) (ss : List Segment)
     (one : StationParts links spells first entries (length first + low) ss)
@@ -505,7 +503,7 @@ pub on_side : ListsAreGood → ListsMayStop → SessionsAgree → OneStationAgre
     → before ++ added ≡ whole first entries → length before ≡ length first + low → (initiator : Bool)
     → AreOnSide links spells first entries lane initiator ss one.sessions
     → HaveSteps links spells first entries all.parts before added lane size window initiator
-on_side good may_stop whole_agree agree links spells first entries low all tells possible lane size window
+on_side good whole_agree agree links spells first entries low all tells possible lane size window
     ss one within have began values before added cut from_is initiator side = (
       built.lists,
       built.are,
@@ -532,7 +530,7 @@ on_side good may_stop whole_agree agree links spells first entries low all tells
         within side
 
     goods : EachGood spells history lane size window initiator built.lists
-    goods = each_good links good may_stop whole_agree spells first entries low allow all lane size window initiator
+    goods = each_good links good whole_agree spells first entries low allow all lane size window initiator
         built.lists values built.are
 
     rises : sent.Rises n (sent.placed_lists lane built.lists)
@@ -553,13 +551,13 @@ on_side good may_stop whole_agree agree links spells first entries low all tells
       owned = receives links spells first entries low all lane size window initiator n refl ss built have began;
     }
 
-pub lanes_agree : ListsAreGood → ListsMayStop → SessionsAgree → OneStationAgrees → {L : Type 0} (links : LinkView L)
+pub lanes_agree : ListsAreGood → SessionsAgree → OneStationAgrees → {L : Type 0} (links : LinkView L)
     → LanesOfStationsAgree links
-lanes_agree good may_stop whole_agree agree links spells first entries low all tells possible lane size window ss one
+lanes_agree good whole_agree agree links spells first entries low all tells possible lane size window ss one
     station have told values before added cut from_is = (
       side_of links spells first entries possible lane ss one.sessions,
       λ initiator side.
-          on_side good may_stop whole_agree agree links spells first entries low all tells possible lane size window ss
+          on_side good whole_agree agree links spells first entries low all tells possible lane size window ss
           one
           (λ s i.
           subst (λ (zs : List Segment). IsOne s zs) (sym all.of_stations)

@@ -1,6 +1,6 @@
 -- The list of one session that a worker served: it stands between where the session had its lane and where it was over.
-use Rattle.std.proofs.Common.{◌≡◌, ◌<◌, ◌≤◌, ℕ, ◌+◌, Bool, true, false, Option, Some, None, List, [], ◌∷◌, ◌++◌}
-use Rattle.std.proofs.Common.{refl, sym, ap, subst, ◌∙◌, append-nil, arith}
+use Rattle.std.proofs.Common.{◌≡◌, ◌<◌, ◌≤◌, ℕ, ◌+◌, Bool, false, Option, Some, None, List, [], ◌∷◌, ◌++◌}
+use Rattle.std.proofs.Common.{refl, sym, ap, subst, ◌∙◌, arith}
 use Rattle.mta_links.specs.Links.{LinkView}
 use Rattle.mta_transfer_rules.specs.Lanes.{Seen}
 use Rattle.mta_records.specs.declared.step.Step.{Step}
@@ -14,18 +14,16 @@ use Rattle.mta_session.specs.declared.event.Event.TheVariants as event
 use Rattle.mta_session_list_laws.specs.Calls.{action_of, Call}
 use Rattle.mta_session_list_laws.specs.Laws.{IsIn}
 use Rattle.mta_session_list_laws.specs.Lists.{completed, Initiates, IsListOf, Responds}
-use Rattle.mta_session_list_laws.specs.Lost.{abort_of, Lost, lost_of, seen_of, tail_of}
+use Rattle.mta_session_list_laws.specs.Over.{abort_of, list_over, seen_of, tail_of, untold_of}
 use Rattle.mta_session_list_laws.specs.Standing.{ComesTrue}
 use Rattle.mta_worker_list_laws.specs.Agreeing.{IsListIn}
 use Rattle.mta_worker_list_laws.specs.All.{AllParts}
-use Rattle.mta_worker_list_laws.specs.Begun.{Ended, IsAtLink, IsOver, Stopped, Untold}
-use Rattle.mta_worker_list_laws.specs.Good.{IsListOver, IsStopped}
+use Rattle.mta_worker_list_laws.specs.Begun.{Ended, IsAtLink, IsOver, over_as, Stopped, Untold}
 use Rattle.mta_worker_list_laws.specs.Histories.{place, whole}
 use Rattle.mta_worker_list_laws.specs.Parts.{IsSession}
 use Rattle.mta_worker_list_laws.specs.Segments.{IsOne, ListsAs, OnLane, Segment, told_over}
-use Rattle.mta_worker_list_laws.proofs.AllGood.{list_behind}
 use Rattle.mta_worker_list_laws.proofs.Good.{read_asks}
-use Rattle.mta_worker_list_laws.proofs.Whole.{over_at, over_in, with_in}
+use Rattle.mta_worker_list_laws.proofs.Whole.{over_in, with_in}
 use Rattle.mta_lane_list_laws.specs.Turns.{StandsBetween}
 use Rattle.mta_lane_list_laws.proofs.Between.{abort_stand, calls_then, From, seen_more, stand_between, StandUpto}
 use Rattle.mta_lane_list_laws.proofs.Between.{tail_stand}
@@ -60,56 +58,38 @@ module _ (spells : List ℕ → Bool) (history : List Seen) where
       (λ low le. base low (subst (λ (n : ℕ). low ≤ n) last le))
 
   -- nothing of what came at the link is a step
-  link_tail : (low upto : ℕ) (a : Action) (e : Event) (aborts : Bool) → IsAtLink a → low ≤ upto
-      → StandUpto low upto (lost_of a upto e ++ abort_of aborts)
-  link_tail low upto (action.Put x) e aborts at le = abort_stand spells history low upto aborts le
-  link_tail low upto action.Read (event.Unit u) aborts at le = abort_stand spells history low upto aborts le
-  link_tail low upto action.Read any3 aborts at le = abort_stand spells history low upto aborts le
-  link_tail low upto any2 e aborts at le = absurd at
+  link_tail : (low upto : ℕ) (a : Action) (came : Option Event) (aborts : Bool) → IsAtLink a → low ≤ upto
+      → StandUpto low upto (untold_of a upto came ++ abort_of aborts)
+  link_tail low upto a None aborts at le = abort_stand spells history low upto aborts le
+  link_tail low upto (action.Put x) (Some e) aborts at le = abort_stand spells history low upto aborts le
+  link_tail low upto action.Read (Some (event.Unit u)) aborts at le = abort_stand spells history low upto aborts le
+  link_tail low upto action.Read (Some any4) aborts at le = abort_stand spells history low upto aborts le
+  link_tail low upto any2 (Some e) aborts at le = absurd at
 
-  abbrev Stands : (at upto : ℕ) → SessionList → Type 0
-  Stands at upto m = StandUpto (at + 1) upto m.events
-
-  plain_stands : (t : State) (calls : List Call) (lane : ℕ) (l : SessionList) (upto : ℕ)
-      → IsListOf spells history t calls lane l → seen_of (l.at + 1) calls ≤ upto → Stands l.at upto l
-  plain_stands t calls lane l upto is most =
-      subst (StandUpto (l.at + 1) upto) (append-nil l.events)
-      (list_then t calls lane l [] upto is (λ low le. omega (arith, le, most)))
-
-  stopped_stands : (t : State) (calls : List Call) (lane : ℕ) (l m : SessionList) (upto : ℕ) (came : Option Event)
-      (aborts : Bool) → IsListOf spells history t calls lane l → seen_of (l.at + 1) calls ≤ upto
-      → IsAtLink (action_of action.Read calls) → IsStopped calls l upto came aborts m → Stands l.at upto m
-  stopped_stands t calls lane l m upto None false is most at so =
-      subst (Stands l.at upto) (sym so) (plain_stands t calls lane l upto is most)
-  stopped_stands t calls lane l m upto None true is most at so =
-      subst (Stands l.at upto) (sym so)
-      (list_then t calls lane l (abort_of true) upto is
-      (λ low le. abort_stand spells history low upto true (omega (arith, le, most))))
-  stopped_stands t calls lane l m upto (Some e) aborts is most at so =
-      subst (Stands l.at upto) (sym so)
-      (list_then t calls lane l (lost_of (action_of action.Read calls) upto e ++ abort_of aborts) upto is
-      (λ low le. link_tail low upto (action_of action.Read calls) e aborts at (omega (arith, le, most))))
-
-  over_stands : (t u : State) (b : Action) (calls : List Call) (lane from mid upto : ℕ) (l m : SessionList)
+  over_stands : (t u : State) (b : Action) (calls : List Call) (lane from mid upto : ℕ) (l : SessionList)
       (o : IsOver spells history mid upto u b) → IsListOf spells history t calls lane l
-      → action_of action.Read calls ≡ b → seen_of from calls ≡ mid → IsListOver calls l o m → l.at < upto
-      → Stands l.at upto m
-  over_stands t u b calls lane from mid upto l m (Ended e is same) list w seen so less =
-      subst (Stands l.at upto) (sym so)
-      (plain_stands t calls lane l upto list
-      (seen_most calls l.at from mid upto seen (omega (arith, same)) less))
-  over_stands t u b calls lane from mid upto l m (Stopped came aborts at may going same) list w seen so less =
-      stopped_stands t calls lane l m upto came aborts list
-      (seen_most calls l.at from mid upto seen (omega (arith, same)) less) (subst IsAtLink (sym w) at) so
-  over_stands t u b calls lane from mid upto l m (Untold q y aborts is comes answers going) list w seen so less =
+      → action_of action.Read calls ≡ b → seen_of from calls ≡ mid → l.at < upto
+      → StandUpto (l.at + 1) upto (list_over calls l (over_as o)).events
+  over_stands t u b calls lane from mid upto l (Ended e is same) list w seen less =
+      let most = seen_most calls l.at from mid upto seen (omega (arith, same)) less in
+      list_then t calls lane l (tail_of (action_of action.Read calls)
+      (record { untold = None; seen = upto; aborts = false })) upto list
+      (λ low le. abort_stand spells history low upto false (omega (arith, le, most)))
+  over_stands t u b calls lane from mid upto l (Stopped came aborts at may going same) list w seen less =
+      let most = seen_most calls l.at from mid upto seen (omega (arith, same)) less in
+      list_then t calls lane l
+      (tail_of (action_of action.Read calls) (record { untold = came; seen = upto; aborts = aborts })) upto list
+      (λ low le. link_tail low upto (action_of action.Read calls) came aborts (subst IsAtLink (sym w) at)
+      (omega (arith, le, most)))
+  over_stands t u b calls lane from mid upto l (Untold q y aborts is comes answers going) list w seen less =
       let last : seen_of (l.at + 1) calls ≡ mid = seen_asked calls l.at from mid q (w ∙ is) seen in
-      let x : Lost = record { event = event.Reply y; seen = upto; aborts = aborts } in
       let asked : ComesTrue spells history mid upto u.phase (action_of action.Read calls) (event.Reply y) =
       subst (λ (a : Action). ComesTrue spells history mid upto u.phase a (event.Reply y)) (sym (w ∙ is)) comes in
-      subst (Stands l.at upto) (sym so)
-      (list_then t calls lane l (tail_of (action_of action.Read calls) x) upto list
-      (λ low le. tail_stand spells history low mid u.phase (action_of action.Read calls) x (omega (arith, le, last))
-      asked))
+      list_then t calls lane l
+      (tail_of (action_of action.Read calls) (record { untold = Some (event.Reply y); seen = upto; aborts = aborts }))
+      upto list
+      (λ low le. tail_stand spells history low mid upto u.phase aborts (action_of action.Read calls)
+      (Some (event.Reply y)) (omega (arith, le, last)) asked)
 
 -- ---- a session
 
@@ -140,7 +120,7 @@ module _ {L : Type 0} (links : LinkView L) (spells : List ℕ → Bool) (first e
       lane_is = lane_is;
       listed = listed;
       list = m;
-      behind = behind.1;
+      behind = refl;
       list_is = refl;
     };
     at_is = at;
@@ -149,7 +129,7 @@ module _ {L : Type 0} (links : LinkView L) (spells : List ℕ → Bool) (first e
         (subst (λ (n : ℕ). StandUpto (n + 1) upto m.events) (sym (at ∙ listed.2)) there));
     has = λ y i.
         with_in history on.lane y m.events _ _
-        (over_in spells history mid upto u b x.calls l m x.ran.done.over y x.ran.done.leads.wanted behind.1
+        (over_in spells history mid upto u b x.calls l m x.ran.done.over y x.ran.done.leads.wanted refl
         (subst (λ (ys : List SessionEvent). IsIn y ys) listed.3 i));
   } where
     u : State
@@ -170,19 +150,16 @@ module _ {L : Type 0} (links : LinkView L) (spells : List ℕ → Bool) (first e
     l : SessionList
     l = listed.0
 
-    behind : (m : SessionList) × IsListOver x.calls l x.ran.done.over m
-    behind = list_behind spells history mid upto u b x.calls l x.ran.done.over
-
     m : SessionList
-    m = behind.0
+    m = list_over x.calls l (over_as x.ran.done.over)
 
     whole_list : SessionList
     whole_list = completed history on.lane size window (is_initiator x.new.side) m
 
     at : m.at ≡ on.at
-    at = over_at spells history mid upto u b x.calls l m x.ran.done.over behind.1 ∙ sym listed.2
+    at = sym listed.2
 
     there : StandUpto (l.at + 1) upto m.events
     there =
-        over_stands spells history x.new u b x.calls on.lane (place first x.begun) mid upto l m x.ran.done.over listed.1
-        x.ran.done.leads.wanted x.ran.done.leads.seen behind.1 (subst (λ (n : ℕ). n < upto) listed.2 less)
+        over_stands spells history x.new u b x.calls on.lane (place first x.begun) mid upto l x.ran.done.over listed.1
+        x.ran.done.leads.wanted x.ran.done.leads.seen (subst (λ (n : ℕ). n < upto) listed.2 less)

@@ -1,23 +1,18 @@
 //! Laws over the definitions.
 
-ghost use Rattle.mta_lane_list_laws.specs.Between.{ListsStandBetween, StoppedListsStandBetween};
+ghost use Rattle.mta_lane_list_laws.specs.Between.{ListsStandBetween};
 ghost use Rattle.mta_lane_list_laws.specs.Called.{CalledLanesOfStationsAgree};
 ghost use Rattle.mta_lane_list_laws.specs.Lanes.{LanesOfStationsAgree};
 ghost use Rattle.mta_lane_list_laws.specs.Turns.{ListsInTurnAgree, ListsInTurnRise};
 
 use mta_links::Link;
-use mta_session_list_laws::{lists_are_good, lists_may_stop};
+use mta_session_list_laws::lists_are_good;
 use mta_transfer_laws::{one_station_agrees, sessions_agree};
 
-/// The steps of a session's list stand behind the one that begins it, and before the length of the history that it had
-/// seen at its end.
+/// The steps of a session's list stand behind the one that begins it, and before the length of the history at which the
+/// session was over.
 pub fn lists_stand_between()
     ensures { ListsStandBetween }
-{}
-
-/// So it is with what came of its last action, where that is not told.
-pub fn stopped_lists_stand_between()
-    ensures { StoppedListsStandBetween }
 {}
 
 /// The positions of lists that stand one behind the other rise.
@@ -39,7 +34,6 @@ pub fn lanes_agree<L: Link>()
     ensures { LanesOfStationsAgree L.model }
 {
     lists_are_good();
-    lists_may_stop();
     sessions_agree();
     one_station_agrees();
 }
@@ -50,7 +44,6 @@ pub fn called_lanes_agree<L: Link>()
     ensures { CalledLanesOfStationsAgree L.model }
 {
     lists_are_good();
-    lists_may_stop();
     sessions_agree();
     one_station_agrees();
 }

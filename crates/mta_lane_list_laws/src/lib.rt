@@ -6,5 +6,4 @@ mod laws;
 
 pub use laws::{
     called_lanes_agree, lanes_agree, lists_in_turn_agree, lists_in_turn_rise, lists_stand_between,
-    stopped_lists_stand_between,
 };

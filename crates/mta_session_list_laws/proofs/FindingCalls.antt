@@ -40,8 +40,8 @@ use Rattle.mta_transfer_laws.specs.Sessions.{SessionEvent, Made, Looked, Got, Re
 use Rattle.mta_transfer_laws.specs.Sessions.{receiving_step_of}
 use Rattle.mta_transfer_laws.specs.Sessions.{took_of, answers_of, transfer_unit, answer_unit, recv_all, found_by}
 use Rattle.mta_lane_match_laws.specs.Asks.{IsAskOf, handed_by}
-use Rattle.mta_session_list_laws.specs.Calls.{Call, StepOn, step_told, look_told, told_as, got_as, come_of, list_of}
-use Rattle.mta_session_list_laws.specs.Standing.{Stands, Looks, StandsAs, ComesTrue, AllComeTrue}
+use Rattle.mta_session_list_laws.specs.Calls.{StepOn, step_told, look_told, told_as, got_as, come_of}
+use Rattle.mta_session_list_laws.specs.Standing.{Stands, Looks, StandsAs, ComesTrue}
 use Rattle.mta_session_list_laws.proofs.Found.{never}
 use Rattle.mta_session_list_laws.proofs.Lanes.{lane_at, step_allowed, step_leads}
 use Rattle.mta_session_list_laws.proofs.Received.{is_receiving, quiet_reply, QuietStep, quiet_step}
@@ -126,13 +126,6 @@ module _ (spells : List ℕ → Bool) (history : List Seen) (lane : ℕ) (allow 
       told_behind from seen a y (step_told a y) (look_told a y) rest is.1 more
   come_behind from seen p (action.Ask a) t any5 rest is more = same_behind from seen rest is more
   come_behind from seen p (action.Finish y) t e rest is more = same_behind from seen rest is more
-
-  pub calls_behind : (cs : List Call) (from : ℕ) (a : Action) → AllComeTrue spells history from a cs
-      → Behind from (list_of a cs)
-  calls_behind [] from a is = λ q j step k. absurd k
-  calls_behind (c ∷ cs) from a is =
-      come_behind from c.seen c.turn.before.phase a c.turn c.turn.event (list_of c.turn.action cs) is.0
-      (calls_behind cs c.seen c.turn.action is.1)
 
 -- ---- a reply
 

@@ -25,18 +25,16 @@ use Rattle.mta_session.specs.declared.event.Side.TheVariants as side
 use Rattle.mta_session.specs.declared.peer.Peer.{Peer}
 use Rattle.mta_session.specs.declared.phase.Phase.{Phase}
 use Rattle.mta_session.specs.declared.phase.Phase.TheVariants as phase
-use Rattle.mta_session.specs.Session.{new_initiator, new_responder}
-use Rattle.mta_session.specs.State.{State, is_initiator}
+use Rattle.mta_session.specs.State.{State}
 use Rattle.mta_session.specs.Wanted.{Wanted, Aborts, Rejects, Ends, Puts, Asks, Reads, Goes_on, Excepts, Never, begins}
 use Rattle.mta_session.specs.Wanted.{with_lane, answer_for}
 use Rattle.mta_session.specs.Follows.{Does, counted}
 use Rattle.mta_session.specs.Fits.{AnswersAt, FitsAt, HasCall, HasLine}
 use Rattle.mta_session_laws.specs.Runs.{Turn, IsTurn}
 use Rattle.mta_session_laws.specs.Turning.{called_for, is_last_phase}
-use Rattle.mta_session_laws.specs.Whole.{AreCalls}
 use Rattle.mta_session_laws.proofs.Opening.{wanted_in}
 use Rattle.mta_session_laws.proofs.Whole.{is_ended}
-use Rattle.mta_transfer_laws.specs.Receivings.{AreTrue, pieces_behind, end_on_link}
+use Rattle.mta_transfer_laws.specs.Receivings.{AreTrue, pieces_behind}
 use Rattle.mta_transfer_laws.specs.Sessions as x
 use Rattle.mta_transfer_laws.specs.Sessions.{SessionEvent, Made, Looked, Got, Refused, Put, receiving_event}
 use Rattle.mta_transfer_laws.specs.Sessions.{receiving_events}
@@ -46,31 +44,26 @@ use Rattle.mta_transfer_laws.specs.Sessions.{Rests, RestsAt, SendOwesNothing}
 use Rattle.mta_lane_match_laws.proofs.Lanes.{lanes_stay}
 use Rattle.mta_lane_match_laws.specs.Calls.{has_lane}
 use Rattle.mta_session_list_laws.specs.Abandons.{has_before, abandoned_upto, abandon_at, given_up, with_abandons}
-use Rattle.mta_session_list_laws.specs.Calls.{Call, StepOn, turns_of, step_told, look_told, told_as, got_as, come_of}
-use Rattle.mta_session_list_laws.specs.Calls.{list_of}
-use Rattle.mta_session_list_laws.specs.Laws.{IsPiece, IsIn, OwnsPieces, ListsFind, ListsAreGood, ListsSend}
+use Rattle.mta_session_list_laws.specs.Calls.{StepOn, step_told, look_told, told_as, got_as, come_of}
+use Rattle.mta_session_list_laws.specs.Laws.{IsPiece, IsIn}
 use Rattle.mta_session_list_laws.specs.Laws.{SendOwesAt, SendOwesNothingAt, OwesAt, OwesNothingAt}
-use Rattle.mta_session_list_laws.specs.Lists.{HasAt, step_for, step_by, Initiates, Responds, end_begun, completed}
-use Rattle.mta_session_list_laws.specs.Standing.{StandsAs, ComesTrue, AllComeTrue}
+use Rattle.mta_session_list_laws.specs.Lists.{HasAt, step_for, step_by}
+use Rattle.mta_session_list_laws.specs.Standing.{StandsAs, ComesTrue}
 use Rattle.mta_session_list_laws.proofs.Found.{never}
-use Rattle.mta_session_list_laws.proofs.Insertion.{received}
 use Rattle.mta_session_list_laws.proofs.Lanes.{lane_at, step_allowed, step_leads}
-use Rattle.mta_session_list_laws.proofs.Waiting.{Ready, ready_next, does_at, ask_answers}
-use Rattle.mta_session_list_laws.proofs.Ordering.{is_some, later_calls, lists_ordered}
-use Rattle.mta_session_list_laws.proofs.Answering.{reached_without}
+use Rattle.mta_session_list_laws.proofs.Waiting.{does_at, ask_answers}
+use Rattle.mta_session_list_laws.proofs.Ordering.{is_some}
 use Rattle.mta_session_list_laws.proofs.Receiving.{pending, run_allowed}
-use Rattle.mta_session_list_laws.proofs.ReceivingPhases.{After, first, RecvAt, waits_after}
-use Rattle.mta_session_list_laws.proofs.ReceivingLists.{Part, at_opening, in_open, at_last, at_none, part, none_here}
-use Rattle.mta_session_list_laws.proofs.ReceivingLists.{Asked}
-use Rattle.mta_session_list_laws.proofs.ReceivingLists.{open_not_last, asked_next, is_early, Tells, RecvHere, heard}
+use Rattle.mta_session_list_laws.proofs.ReceivingPhases.{After, first, RecvAt}
+use Rattle.mta_session_list_laws.proofs.ReceivingLists.{Part, at_opening, in_open, at_last, at_none, none_here}
+use Rattle.mta_session_list_laws.proofs.ReceivingLists.{open_not_last, is_early, Tells, RecvHere, heard}
 use Rattle.mta_session_list_laws.proofs.ReceivingLists.{last_heard}
 use Rattle.mta_session_list_laws.proofs.ReceivedLists.{any_silent, event_goes}
-use Rattle.mta_session_list_laws.proofs.ReceivedAll.{in_turn, tells, open_has, opening_has, opening_not_last, lane_next}
-use Rattle.mta_session_list_laws.proofs.ReceivingLaw.{planned, responds, run_front, lists_receive}
+use Rattle.mta_session_list_laws.proofs.ReceivedAll.{open_has, opening_has, opening_not_last}
 use Rattle.mta_session_list_laws.proofs.SendingLaw.{accept_new}
-use Rattle.mta_session_list_laws.proofs.Finding.{Tracks, put_else}
+use Rattle.mta_session_list_laws.proofs.Finding.{put_else}
 use Rattle.mta_session_list_laws.proofs.FindingCalls.{pieces_all, FindKeeps, put_true, got_true, got_as_else, Behind}
-use Rattle.mta_session_list_laws.proofs.FindingCalls.{calls_behind, FoundSo, else_found, More, reply_finds}
+use Rattle.mta_session_list_laws.proofs.FindingCalls.{FoundSo, else_found, More, reply_finds}
 
 -- ---- one call
 
@@ -307,64 +300,6 @@ gen_next early one b a gen t is k f (at_last i) n =
     absurd (never (sym n ∙ (any_silent t is i (is_ended t.before.phase) refl).last))
 gen_next early one b a gen t is k f (at_none i) n = absurd (none_here early one t.before.phase t.before a b i k)
 
-module _ (spells : List ℕ → Bool) (history : List Seen) (lane : ℕ) (allow : IsOfLanes spells history) (gen at : ℕ)
-  where
-    abbrev half : Halves
-    half = lane_in lane (take (at + 1) history)
-
-    pub calls_find : (cs : List Call) (a : Action) (t u : State) (b c : RecvEnd) (pieces : List (List ℕ)) (n from : ℕ)
-        → Ready a t → Asked a t → (is_last_phase t.phase ≡ false → t.lane ≡ lane)
-        → (is_last_phase t.phase ≡ false → t.generation ≡ gen) → r.IsReceivingEnd b (pending a) c
-        → RecvAt (from ≡ at + 1) (first half (from ≡ at + 1)) t.phase t a c
-        → (is_last_phase t.phase ≡ false → FoundSo spells history lane allow gen from pieces n (list_of a cs))
-        → AllComeTrue spells history from a cs → AreCalls t (turns_of cs) u
-        → FindKeeps spells lane b pieces (list_of a cs)
-    calls_find [] a t u b c pieces n from k asked f d put here found is run = tt
-    calls_find (w ∷ ws) a t u b c pieces n from k asked f d put here found is run =
-        let ready : Ready a w.turn.before = subst (Ready a) (sym run.0) k in
-        let asks : Asked a w.turn.before = subst (Asked a) (sym run.0) asked in
-        let keeps : is_last_phase w.turn.before.phase ≡ false → w.turn.before.lane ≡ lane =
-        subst (λ z. is_last_phase z.phase ≡ false → z.lane ≡ lane) (sym run.0) f in
-        let gens : is_last_phase w.turn.before.phase ≡ false → w.turn.before.generation ≡ gen =
-        subst (λ z. is_last_phase z.phase ≡ false → z.generation ≡ gen) (sym run.0) d in
-        let stands : RecvAt (from ≡ at + 1) (first half (from ≡ at + 1)) w.turn.before.phase w.turn.before a c =
-        subst (λ z. RecvAt (from ≡ at + 1) (first half (from ≡ at + 1)) z.phase z a c) (sym run.0) here in
-        let so : is_last_phase w.turn.before.phase ≡ false
-        → FoundSo spells history lane allow gen from pieces n (list_of a (w ∷ ws)) =
-        subst (λ z. is_last_phase z.phase ≡ false
-        → FoundSo spells history lane allow gen from pieces n (list_of a (w ∷ ws))) (sym run.0) found in
-        let next : is_early w.turn.before.phase ≡ true → from ≡ at + 1 → w.seen ≡ at + 1 =
-        λ i e. in_turn spells history w.turn.before.phase a w.turn.event from w.seen is.0 ready.waits i ∙ e in
-        come_finds spells history lane allow gen half (from ≡ at + 1) (w.seen ≡ at + 1) a w.turn w.seen from
-        w.turn.event
-        b c pieces n (list_of w.turn.action ws)
-        (record {
-          here = record { is = run.1; waits = ready.waits; asked = asks; lane_is = keeps; at = stands };
-          gen_is = gens;
-          put = put;
-          next = next;
-        }) refl
-        (tells spells history w.turn.before.phase w.turn.event lane at from w.seen w.turn.before a refl asks ready.waits
-        keeps (λ i. next i (early_here w.turn.before.phase w.turn.before a c from i stands)) is.0)
-        is.0 so
-        (λ e many m after left. calls_find ws w.turn.action w.turn.after u e after.ended many m w.seen
-        (ready_next w.turn run.1 ready.due)
-        (asked_next w.turn.action w.turn.before w.turn.event w.turn.after run.1.follows)
-        (lane_next (from ≡ at + 1) (first half (from ≡ at + 1)) c a lane w.turn run.1 stands keeps
-        (part w.turn.before.phase))
-        (gen_next (from ≡ at + 1) (first half (from ≡ at + 1)) c a gen w.turn run.1 stands gens
-        (part w.turn.before.phase))
-        after.run after.at left is.1 run.2)
-        (calls_behind spells history lane allow gen ws w.seen w.turn.action is.1)
-      where
-        early_here : (p : Phase) (t : State) (a : Action) (c : RecvEnd) (from : ℕ) → is_early p ≡ true
-            → RecvAt (from ≡ at + 1) (first half (from ≡ at + 1)) p t a c → from ≡ at + 1
-        early_here phase.Begin t a c from i k = k.2
-        early_here phase.AsksValues t a c from i k = k.1
-        early_here phase.AsksRecovery t a c from i k = k.1
-        early_here (phase.AsksReceiving st) t a c from i k = k.1
-        early_here p t a c from i k = absurd (never i)
-
 -- ---- a list and the Abandons in it
 
 or_behind : (z y : SessionEvent) (ws ys : List SessionEvent) → (IsIn z ws → IsIn z ys) → IsIn z (y ∷ ws)
@@ -496,65 +431,6 @@ module _ (spells : List ℕ → Bool) (history : List Seen) (at : ℕ) (allow : 
       (k.0, ap (λ (z : State). z.generation) d.1 ∙ sym k.1)
   responds_so p t e a new y q is f d = elim (is_some (step_by p e new) y q) [ ]
 
--- ---- the laws
-
-finds : (spells : List ℕ → Bool) (history : List Seen) (allow : IsOfLanes spells history)
-    (lane size window at : ℕ) (initiator : Bool) (a : Action) (cs : List Call) (t u : State) (c : RecvEnd)
-    (opening : List SessionEvent)
-    → ((lane_in lane (take (at + 1) history)).phase ≡ Unopened → ⊥)
-    → t.generation ≡ (lane_in lane (take (at + 1) history)).generation
-    → OwnsPieces history lane
-    (completed history lane size window initiator (record { opening = opening; at = at; events = list_of a cs }))
-    → Ready a t → Asked a t → (is_last_phase t.phase ≡ false → t.lane ≡ lane)
-    → r.IsReceivingEnd (end_on_link (lane_in lane (take (at + 1) history))) (pending a) c
-    → RecvAt (at + 1 ≡ at + 1) (first (lane_in lane (take (at + 1) history)) (at + 1 ≡ at + 1)) t.phase t a c
-    → AllComeTrue spells history (at + 1) a cs → AreCalls t (turns_of cs) u
-    → AreTrue spells (end_on_link (lane_in lane (take (at + 1) history))) (lane_in lane (take (at + 1) history)).pieces
-    (receiving_events lane (completed history lane size window initiator
-    (record { opening = opening; at = at; events = list_of a cs })).events)
-finds spells history allow lane size window at initiator a cs t u c opening open_ gen owns ready asked keeps put here
-    true_ run =
-    let l : Halves = lane_in lane (take (at + 1) history) in
-    let e : SendEnd = end_begun history lane size window at initiator in
-    subst (λ z. AreTrue spells (end_on_link l) l.pieces z) (sym (received history lane (list_of a cs) (at + 1) e))
-    (keeps_true spells lane (end_on_link l) l.pieces (list_of a cs)
-    (calls_find spells history lane allow l.generation at cs a t u (end_on_link l) c l.pieces (at + 1) (at + 1) ready
-    asked keeps (λ i. gen) put here
-    (λ i. record {
-      before = omega arith;
-      tracks = subst (Tracks l.generation l.pieces) (sym (upto-take history lane (at + 1) (omega arith)))
-          (open_, inr (refl, refl));
-      owned = λ q step down is piece. in_without history lane l.generation (list_of a cs) (at + 1) e q step piece
-          (owns q step (omega (arith, down)) is piece);
-    })
-    true_ run))
-
-pub lists_find : ListsFind
-lists_find spells history one u calls lane size window l allow (Initiates p units at cs is true_) opens owns run =
-    let begun = planned_so spells history at allow p is opens in
-    finds spells history allow p.lane size window at true action.Read cs (new_initiator p units) u
-    (first (lane_in p.lane (take (at + 1) history)) (at + 1 ≡ at + 1)) [] begun.0 begun.1 owns
-    (record { due = refl; waits = refl }) tt (λ n. refl) refl
-    (refl, (λ n. planned spells history at allow p is n), refl) true_ run
-lists_find spells history one u calls lane size window l allow
-    (Responds own units at before cs c y by seen is true_) opens owns run =
-    let start : Ready action.Read (new_responder own units) = record { due = refl; waits = refl } in
-    let later = later_calls before cs c action.Read (new_responder own units) u start run in
-    let waits = responds spells history at allow c.turn.before.phase c.turn.before c.turn.event c.turn.after y by is
-    (λ i. (reached_without before action.Read (new_responder own units) c.turn.before start
-    (run_front before cs c (new_responder own units) u run) i).1) in
-    let done = does_at c.turn c.turn.event refl later.is waits.1 in
-    let after = waits_after (lane_in c.turn.after.lane (take (at + 1) history)) (at + 1 ≡ at + 1)
-    (counted c.turn.before c.turn.event)
-    (wanted_in c.turn.before.phase (counted c.turn.before c.turn.event) c.turn.event) c.turn.action c.turn.after waits.0
-    done later.is.fits_after in
-    let begun = responds_so spells history at allow c.turn.before.phase c.turn.before c.turn.event c.turn.action
-    c.turn.after y by is later.is.fits done in
-    finds spells history allow c.turn.after.lane size window at false c.turn.action cs c.turn.after u after.ended
-    (list_of action.Read before) begun.0 begun.1 owns later.ready
-    (asked_next c.turn.action c.turn.before c.turn.event c.turn.after later.is.follows) (λ n. refl) after.run after.at
-    true_ later.run
-
 -- what is owed before a unit is got, of both halves
 rests_at : (v : x.Turn) (a : SendEnd) (b : RecvEnd) (y : SessionEvent) → SendOwesAt v a y → OwesAt b y
     → RestsAt v a b y
@@ -569,29 +445,3 @@ rests lane v a b (y ∷ ys) p q = (
   rests_at v a b y p.0 q.0,
   rests lane (turn_after v y) (send_all a (sending_event lane y)) (recv_all b (receiving_event lane y)) ys p.1 q.1,
 )
-
-pub lists_good : ListsSend → ListsAreGood
-lists_good sends spells history one u calls lane size window l allow is values opens owns run =
-    let ordered = lists_ordered spells history one u calls lane size window l is run in
-    let gets = lists_receive spells history one u calls lane size window l allow is run in
-    let puts = sends spells history one u calls lane size window l allow is values run in
-    let found = lists_find spells history one u calls lane size window l allow is opens owns run in
-    record {
-      begun = ordered.begun;
-      stands = ordered.stands;
-      never_fall = ordered.never_fall;
-      sending = puts.good;
-      receiving = record {
-        plain = gets.plain;
-        last_end = gets.last_end;
-        allowed = gets.allowed;
-        findings = found;
-      };
-      turn = ordered.turn;
-      rests = rests lane x.Before_accept
-          (end_begun history lane size window l.at (is_initiator one.side))
-          (end_on_link (lane_in lane (take (l.at + 1) history)))
-          (completed history lane size window (is_initiator one.side) l).events puts.owes gets.owes;
-      refuses = ordered.refuses;
-      placed = ordered.placed;
-    }

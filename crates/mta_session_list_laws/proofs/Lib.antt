@@ -39,6 +39,6 @@ pub mod SendingLaw
 pub mod Finding
 pub mod FindingCalls
 pub mod FindingLaw
-pub mod LostLists
-pub mod LostHalves
-pub mod LostLaw
+pub mod OverLists
+pub mod OverHalves
+pub mod OverLaw

@@ -1,10 +1,9 @@
 -- All calls of a session: the receiving half of its list keeps the rules.
 use Rattle.std.proofs.Common.{◌≡◌, ◌⊎◌, inl, inr, ℕ, ◌+◌, if◌then◌else◌, Bool, true, false}
-use Rattle.std.proofs.Common.{Some, List, [], ◌∷◌, take, refl, sym, ap, subst, ◌∙◌}
+use Rattle.std.proofs.Common.{Some, List, take, refl, sym, ap, subst, ◌∙◌}
 use Rattle.mta_lane_send.specs.declared.state.SendState.{SendState}
 use Rattle.mta_lane_recv.specs.declared.state.Last.{Last}
 use Rattle.mta_transfer_rules.specs.Lanes.{Halves, Seen, lane_in}
-use Rattle.mta_transfer_rules.specs.Receiving as r
 use Rattle.mta_transfer_rules.specs.Receiving.{RecvEnd}
 use Rattle.mta_session.specs.declared.ask.Ask.{Ask}
 use Rattle.mta_session.specs.declared.ask.Ask.TheVariants as ask
@@ -22,23 +21,21 @@ use Rattle.mta_session.specs.Wanted.{Wanted, Aborts, Rejects, Ends, Puts, Asks, 
 use Rattle.mta_session.specs.Follows.{Does, counted}
 use Rattle.mta_session.specs.Fits.{AnswersAt}
 use Rattle.mta_session_laws.specs.Runs.{Turn, IsTurn}
-use Rattle.mta_session_laws.specs.Whole.{AreCalls}
 use Rattle.mta_session_laws.specs.Turning.{is_open, is_last_phase}
 use Rattle.mta_session_laws.proofs.Opening.{wanted_in}
 use Rattle.mta_session_laws.proofs.Whole.{is_ended}
 use Rattle.mta_lane_match_laws.specs.Asks.{IsAskOf}
 use Rattle.mta_lane_match_laws.specs.Calls.{has_lane}
 use Rattle.mta_lane_match_laws.proofs.Lanes.{lanes_stay}
-use Rattle.mta_session_list_laws.specs.Calls.{Call, turns_of, step_told, list_of}
-use Rattle.mta_session_list_laws.specs.Standing.{Looks, StandsAs, IsInTurn, ComesTrue, AllComeTrue}
+use Rattle.mta_session_list_laws.specs.Calls.{step_told}
+use Rattle.mta_session_list_laws.specs.Standing.{Looks, StandsAs, IsInTurn, ComesTrue}
 use Rattle.mta_session_list_laws.proofs.Found.{never}
-use Rattle.mta_session_list_laws.proofs.Waiting.{goes_with, Ready, ready_next, does_at}
-use Rattle.mta_session_list_laws.proofs.Receiving.{pending}
-use Rattle.mta_session_list_laws.proofs.ReceivingPhases.{RecvAt, first}
+use Rattle.mta_session_list_laws.proofs.Waiting.{goes_with, does_at}
+use Rattle.mta_session_list_laws.proofs.ReceivingPhases.{RecvAt}
 use Rattle.mta_session_list_laws.proofs.ReceivingEnds.{is_opening}
-use Rattle.mta_session_list_laws.proofs.ReceivingLists.{RecvKeeps, Part, at_opening, in_open, at_last, at_none, part}
-use Rattle.mta_session_list_laws.proofs.ReceivingLists.{none_here, Asked, asked_next, is_early, Tells, open_not_last}
-use Rattle.mta_session_list_laws.proofs.ReceivedLists.{any_silent, come_receives}
+use Rattle.mta_session_list_laws.proofs.ReceivingLists.{Part, at_opening, in_open, at_last, at_none}
+use Rattle.mta_session_list_laws.proofs.ReceivingLists.{none_here, Asked, is_early, Tells, open_not_last}
+use Rattle.mta_session_list_laws.proofs.ReceivedLists.{any_silent}
 
 -- ---- the turn of the lock
 
@@ -197,44 +194,3 @@ lane_next early one b a lane t is k f (at_opening i) n =
 lane_next early one b a lane t is k f (at_last i) n =
     absurd (never (sym n ∙ (any_silent t is i (is_ended t.before.phase) refl).last))
 lane_next early one b a lane t is k f (at_none i) n = absurd (none_here early one t.before.phase t.before a b i k)
-
--- ---- all calls
-
-module _ (spells : List ℕ → Bool) (history : List Seen) (lane at : ℕ) where
-  abbrev half : Halves
-  half = lane_in lane (take (at + 1) history)
-
-  pub calls_receive : (cs : List Call) (a : Action) (t u : State) (b c : RecvEnd) (from : ℕ) → Ready a t → Asked a t
-      → (is_last_phase t.phase ≡ false → t.lane ≡ lane) → r.IsReceivingEnd b (pending a) c
-      → RecvAt (from ≡ at + 1) (first half (from ≡ at + 1)) t.phase t a c → AllComeTrue spells history from a cs
-      → AreCalls t (turns_of cs) u → RecvKeeps lane b (list_of a cs)
-  calls_receive [] a t u b c from k asked f put here is run = tt
-  calls_receive (d ∷ ds) a t u b c from k asked f put here is run =
-      let ready : Ready a d.turn.before = subst (Ready a) (sym run.0) k in
-      let asks : Asked a d.turn.before = subst (Asked a) (sym run.0) asked in
-      let keeps : is_last_phase d.turn.before.phase ≡ false → d.turn.before.lane ≡ lane =
-      subst (λ z. is_last_phase z.phase ≡ false → z.lane ≡ lane) (sym run.0) f in
-      let stands : RecvAt (from ≡ at + 1) (first half (from ≡ at + 1)) d.turn.before.phase d.turn.before a c =
-      subst (λ z. RecvAt (from ≡ at + 1) (first half (from ≡ at + 1)) z.phase z a c) (sym run.0) here in
-      let next : is_early d.turn.before.phase ≡ true → from ≡ at + 1 → d.seen ≡ at + 1 =
-      λ i e. in_turn spells history d.turn.before.phase a d.turn.event from d.seen is.0 ready.waits i ∙ e in
-      come_receives half (from ≡ at + 1) (d.seen ≡ at + 1) lane a d.turn d.seen d.turn.event b c
-      (list_of d.turn.action ds)
-      (record { is = run.1; waits = ready.waits; asked = asks; lane_is = keeps; at = stands }) put refl
-      (tells spells history d.turn.before.phase d.turn.event lane at from d.seen d.turn.before a refl asks ready.waits
-      keeps
-      (λ i. next i (early_here d.turn.before.phase d.turn.before a c from i stands)) is.0)
-      next
-      (λ e more. calls_receive ds d.turn.action d.turn.after u e more.ended d.seen (ready_next d.turn run.1 ready.due)
-      (asked_next d.turn.action d.turn.before d.turn.event d.turn.after run.1.follows)
-      (lane_next (from ≡ at + 1) (first half (from ≡ at + 1)) c a lane d.turn run.1 stands keeps
-      (part d.turn.before.phase))
-      more.run more.at is.1 run.2)
-    where
-      early_here : (p : Phase) (t : State) (a : Action) (c : RecvEnd) (from : ℕ) → is_early p ≡ true
-          → RecvAt (from ≡ at + 1) (first half (from ≡ at + 1)) p t a c → from ≡ at + 1
-      early_here phase.Begin t a c from i k = k.2
-      early_here phase.AsksValues t a c from i k = k.1
-      early_here phase.AsksRecovery t a c from i k = k.1
-      early_here (phase.AsksReceiving s) t a c from i k = k.1
-      early_here p t a c from i k = absurd (never i)

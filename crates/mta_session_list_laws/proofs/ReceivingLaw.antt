@@ -15,8 +15,6 @@ use Rattle.mta_transfer_rules.specs.Receiving.{RecvEnd, RecvEvent}
 use Rattle.mta_transfer_rules.specs.Sending.{SendEnd}
 use Rattle.mta_transfer_laws.specs.History.{IsOfLanes}
 use Rattle.mta_session.specs.declared.ask.Reply.TheVariants as reply
-use Rattle.mta_session.specs.declared.event.Action.{Action}
-use Rattle.mta_session.specs.declared.event.Action.TheVariants as action
 use Rattle.mta_session.specs.declared.event.Event.{Event}
 use Rattle.mta_session.specs.declared.event.Event.TheVariants as event
 use Rattle.mta_session.specs.declared.event.InitiatorPlan.{InitiatorPlan}
@@ -24,7 +22,6 @@ use Rattle.mta_session.specs.declared.peer.Peer.{Peer}
 use Rattle.mta_session.specs.declared.phase.Phase.{Phase}
 use Rattle.mta_session.specs.declared.phase.Phase.TheVariants as phase
 use Rattle.mta_session.specs.State.{State}
-use Rattle.mta_session.specs.Session.{new_initiator, new_responder}
 use Rattle.mta_session.specs.Wanted.{with_lane, answer_for}
 use Rattle.mta_session.specs.Follows.{counted}
 use Rattle.mta_session_laws.specs.Whole.{AreCalls}
@@ -38,19 +35,16 @@ use Rattle.mta_transfer_laws.specs.Sessions.{receiving_step_of}
 use Rattle.mta_transfer_laws.specs.Sessions.{transfer_unit, answer_unit, receiving_event, receiving_events, recv_all}
 use Rattle.mta_transfer_laws.specs.Sessions.{seen_after}
 use Rattle.mta_transfer_laws.specs.Sessions.{send_all, sending_event}
-use Rattle.mta_session_list_laws.specs.Calls.{Call, StepOn, turns_of, list_of}
+use Rattle.mta_session_list_laws.specs.Calls.{Call, StepOn, turns_of}
 use Rattle.mta_session_list_laws.specs.Abandons.{has_before, abandoned_upto, abandon_at, given_up, with_abandons}
-use Rattle.mta_session_list_laws.specs.Lists.{HasAt, step_for, step_by, Initiates, Responds, end_begun, completed}
-use Rattle.mta_session_list_laws.specs.Laws.{OwesAt, OwesNothingAt, KeepsReceiving, ListsReceive}
+use Rattle.mta_session_list_laws.specs.Lists.{HasAt, step_for, step_by}
+use Rattle.mta_session_list_laws.specs.Laws.{OwesAt, OwesNothingAt}
 use Rattle.mta_session_list_laws.proofs.Insertion.{none_received}
 use Rattle.mta_session_list_laws.proofs.Lanes.{lane_at, step_allowed, step_leads, between_keeps}
-use Rattle.mta_session_list_laws.proofs.Waiting.{Ready, does_at}
-use Rattle.mta_session_list_laws.proofs.Ordering.{is_some, later_calls}
-use Rattle.mta_session_list_laws.proofs.Answering.{reached_without}
-use Rattle.mta_session_list_laws.proofs.Receiving.{Allowed, allowed_run}
-use Rattle.mta_session_list_laws.proofs.ReceivingPhases.{first, RecvWaits, waits_after, accept_waits}
-use Rattle.mta_session_list_laws.proofs.ReceivingLists.{is_unlisted, RestsRecv, RecvKeeps, asked_next}
-use Rattle.mta_session_list_laws.proofs.ReceivedAll.{calls_receive}
+use Rattle.mta_session_list_laws.proofs.Ordering.{is_some}
+use Rattle.mta_session_list_laws.proofs.Receiving.{Allowed}
+use Rattle.mta_session_list_laws.proofs.ReceivingPhases.{first, RecvWaits, accept_waits}
+use Rattle.mta_session_list_laws.proofs.ReceivingLists.{is_unlisted, RestsRecv, RecvKeeps}
 
 -- ---- a lane that was never opened has done nothing
 
@@ -225,47 +219,7 @@ module _ (spells : List ℕ → Bool) (history : List Seen) (at : ℕ) (allow : 
   responds phase.AsksBind t (event.Reply (reply.Bind (Ok generation))) new y q is k = ((λ a. (refl, refl)), refl)
   responds p t e new y q is k = elim (is_some (step_by p e new) y q) [ ]
 
-kept : (history : List Seen) (lane size window at : ℕ) (initiator : Bool) (a : Action) (cs : List Call)
-    (opening : List SessionEvent) → RecvKeeps lane (end_on_link (lane_in lane (take (at + 1) history))) (list_of a cs)
-    → KeepsReceiving history lane
-    (completed history lane size window initiator (record { opening = opening; at = at; events = list_of a cs }))
-kept history lane size window at initiator a cs opening k =
-    let b : RecvEnd = end_on_link (lane_in lane (take (at + 1) history)) in
-    let e : SendEnd = end_begun history lane size window at initiator in
-    let ys : List SessionEvent = with_abandons history lane (at + 1) e (list_of a cs) in
-    let all : RecvKeeps lane b ys = keeps_with history lane (list_of a cs) (at + 1) e b k in
-    record {
-      plain = all_plain lane ys;
-      last_end = recv_all b (receiving_events lane ys);
-      allowed = allowed_run b (receiving_events lane ys) (keeps_allowed lane b ys all);
-      owes = keeps_owes lane b ys all;
-    }
-
 pub run_front : (before cs : List Call) (c : Call) (t u : State) → AreCalls t (turns_of (before ++ c ∷ cs)) u
     → AreCalls t (turns_of before) c.turn.before
 run_front [] cs c t u run = run.0
 run_front (d ∷ ds) cs c t u run = (run.0, run.1, run_front ds cs c d.turn.after u run.2)
-
-pub lists_receive : ListsReceive
-lists_receive spells history one u calls lane size window l allow (Initiates p units at cs is true_) run =
-    kept history p.lane size window at true action.Read cs []
-    (calls_receive spells history p.lane at cs action.Read (new_initiator p units) u
-    (first (lane_in p.lane (take (at + 1) history)) (at + 1 ≡ at + 1))
-    (first (lane_in p.lane (take (at + 1) history)) (at + 1 ≡ at + 1)) (at + 1) (record { due = refl; waits = refl }) tt
-    (λ n. refl) refl (refl, (λ n. planned spells history at allow p is n), refl) true_ run)
-lists_receive spells history one u calls lane size window l allow
-    (Responds own units at before cs c y by seen is true_) run =
-    let start : Ready action.Read (new_responder own units) = record { due = refl; waits = refl } in
-    let later = later_calls before cs c action.Read (new_responder own units) u start run in
-    let waits = responds spells history at allow c.turn.before.phase c.turn.before c.turn.event c.turn.after y by is
-    (λ i. (reached_without before action.Read (new_responder own units) c.turn.before start
-    (run_front before cs c (new_responder own units) u run) i).1) in
-    let after = waits_after (lane_in c.turn.after.lane (take (at + 1) history)) (at + 1 ≡ at + 1)
-    (counted c.turn.before c.turn.event)
-    (wanted_in c.turn.before.phase (counted c.turn.before c.turn.event) c.turn.event) c.turn.action c.turn.after waits.0
-    (does_at c.turn c.turn.event refl later.is waits.1) later.is.fits_after in
-    kept history c.turn.after.lane size window at false c.turn.action cs (list_of action.Read before)
-    (calls_receive spells history c.turn.after.lane at cs c.turn.action c.turn.after u
-    (first (lane_in c.turn.after.lane (take (at + 1) history)) (at + 1 ≡ at + 1)) after.ended (at + 1) later.ready
-    (asked_next c.turn.action c.turn.before c.turn.event c.turn.after later.is.follows) (λ n. refl) after.run after.at
-    true_ later.run)

@@ -12,6 +12,7 @@ use Rattle.mta_session.specs.declared.event.Event.TheVariants as event
 use Rattle.mta_session.specs.declared.event.Action.{Action}
 use Rattle.mta_session.specs.declared.event.Action.TheVariants as action
 use Rattle.mta_session.specs.declared.phase.Phase.{Phase}
+use Rattle.mta_session.specs.State.{State}
 use Rattle.mta_session.specs.Wanted.{Wanted, Aborts}
 use Rattle.mta_session_laws.specs.Turning.{called_for}
 use Rattle.mta_session_laws.specs.Runs.{Turn}
@@ -21,7 +22,7 @@ use Rattle.mta_transfer_laws.specs.Sessions.{send_all}
 use Rattle.mta_session_list_laws.specs.Calls.{Call, StepOn, step_told, look_told, told_as, got_as, come_of, list_of}
 use Rattle.mta_session_list_laws.specs.Calls.{action_of, event_of}
 use Rattle.mta_session_list_laws.specs.Abandons.{abandon_at, abandoned_upto, given_up, has_before, with_abandons}
-use Rattle.mta_session_list_laws.specs.Lost.{Lost, lost_of, abort_of, tail_of, seen_of}
+use Rattle.mta_session_list_laws.specs.Over.{abort_of, came_of, MayComeLast, Over, seen_of, tail_of, untold_of}
 use Rattle.mta_session_list_laws.specs.Standing.{StandsAs, ComesTrue, AllComeTrue}
 
 -- ---- of any events
@@ -103,43 +104,35 @@ module _ (spells : List ℕ → Bool) (history : List Seen) where
   come-falls low from seen p (action.Ask a) t any6 rest le is more = more low (omega (arith, le, is))
   come-falls low from seen p (action.Finish y) t e rest le is more = more low (omega (arith, le, is))
 
-  pub calls_never_fall : (cs : List Call) (low from : ℕ) (a : Action) → low ≤ from
-      → AllComeTrue spells history from a cs → NeverFall low (list_of a cs)
-  calls_never_fall [] low from a le is = tt
-  calls_never_fall (c ∷ cs) low from a le is =
-      come-falls low from c.seen c.turn.before.phase a c.turn c.turn.event (list_of c.turn.action cs) le is.0
-      (λ to more. calls_never_fall cs to c.seen c.turn.action more is.1)
-
   -- ---- and of what came of the last action
 
   abort-falls : (low : ℕ) (b : Bool) → NeverFall low (abort_of b)
   abort-falls low true = tt
   abort-falls low false = tt
 
-  tail-falls : (low from seen : ℕ) (p : Phase) (aborts : Bool) (a : Action) (e : Event) → low ≤ from
-      → ComesTrue spells history from seen p a e → NeverFall low (lost_of a seen e ++ abort_of aborts)
-  tail-falls low from seen p aborts (action.Put u) e le is = abort-falls low aborts
-  tail-falls low from seen p aborts action.Read (event.Unit u) le is = abort-falls low aborts
-  tail-falls low from seen p aborts action.Read any5 le is = abort-falls low aborts
-  tail-falls low from seen p aborts (action.Ask q) (event.Reply z) le is =
+  came-falls : (low from seen : ℕ) (p : Phase) (aborts : Bool) (a : Action) (e : Event) → low ≤ from
+      → ComesTrue spells history from seen p a e → NeverFall low (came_of a seen e ++ abort_of aborts)
+  came-falls low from seen p aborts (action.Put u) e le is = abort-falls low aborts
+  came-falls low from seen p aborts action.Read (event.Unit u) le is = abort-falls low aborts
+  came-falls low from seen p aborts action.Read any5 le is = abort-falls low aborts
+  came-falls low from seen p aborts (action.Ask q) (event.Reply z) le is =
       told-falls low from seen q z (step_told q z) (look_told q z) (abort_of aborts) le is.1
       (λ to more. abort-falls to aborts)
-  tail-falls low from seen p aborts (action.Ask q) any5 le is = abort-falls low aborts
-  tail-falls low from seen p aborts (action.Finish z) e le is = abort-falls low aborts
+  came-falls low from seen p aborts (action.Ask q) any5 le is = abort-falls low aborts
+  came-falls low from seen p aborts (action.Finish z) e le is = abort-falls low aborts
 
-  never-then : (cs : List Call) (tail : List SessionEvent) (low from : ℕ) (a : Action) → low ≤ from
+  tail-falls : (low from seen : ℕ) (u : State) (aborts : Bool) (a : Action) (o : Option Event) → low ≤ from
+      → MayComeLast spells history from a u seen o → NeverFall low (untold_of a seen o ++ abort_of aborts)
+  tail-falls low from seen u aborts a None le is = abort-falls low aborts
+  tail-falls low from seen u aborts a (Some e) le is = came-falls low from seen u.phase aborts a e le is.stands
+
+  pub calls_never_fall : (cs : List Call) (low from : ℕ) (a : Action) (u : State) (y : Over) → low ≤ from
       → AllComeTrue spells history from a cs
-      → ((to : ℕ) → to ≤ seen_of from cs → NeverFall to tail) → NeverFall low (list_of a cs ++ tail)
-  never-then [] tail low from a le is base = base low le
-  never-then (c ∷ cs) tail low from a le is base =
+      → MayComeLast spells history (seen_of from cs) (action_of a cs) u y.seen y.untold
+      → NeverFall low (list_of a cs ++ tail_of (action_of a cs) y)
+  calls_never_fall [] low from a u y le is last = tail-falls low from y.seen u y.aborts a y.untold le last
+  calls_never_fall (c ∷ cs) low from a u y le is last =
+      let tail : List SessionEvent = tail_of (action_of c.turn.action cs) y in
       subst (λ z. NeverFall low z) (sym (append_assoc (event_of a c) (list_of c.turn.action cs) tail))
       (come-falls low from c.seen c.turn.before.phase a c.turn c.turn.event (list_of c.turn.action cs ++ tail) le is.0
-      (λ to more. never-then cs tail to c.seen c.turn.action more is.1 base))
-
-  pub lost_never_falls : (cs : List Call) (low from : ℕ) (a : Action) (p : Phase) (y : Lost) → low ≤ from
-      → AllComeTrue spells history from a cs
-      → ComesTrue spells history (seen_of from cs) y.seen p (action_of a cs) y.event
-      → NeverFall low (list_of a cs ++ tail_of (action_of a cs) y)
-  lost_never_falls cs low from a p y le is last =
-      never-then cs (tail_of (action_of a cs) y) low from a le is
-      (λ to more. tail-falls to (seen_of from cs) y.seen p y.aborts (action_of a cs) y.event more last)
+      (λ to more. calls_never_fall cs to c.seen c.turn.action u y more is.1 last))

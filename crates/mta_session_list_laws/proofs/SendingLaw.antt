@@ -1,5 +1,5 @@
 -- The sending half of a session's list, with Abandons of other passes, from the step that begins the list.
-use Rattle.std.proofs.Common.{◌≡◌, ℕ, ◌+◌, ◌-◌, ◌*◌, ◌==◌, ◌≤◌, suc, not, if◌then◌else◌, Bool, true}
+use Rattle.std.proofs.Common.{◌≡◌, ℕ, ◌+◌, ◌-◌, ◌*◌, ◌==◌, suc, not, if◌then◌else◌, Bool, true}
 use Rattle.std.proofs.Common.{false, Option, Some, None, Ok, slice_get, List, [], ◌∷◌, ◌++◌, take}
 use Rattle.std.proofs.Common.{drop, refl, sym, ap, subst, ◌∙◌, arith}
 use Rattle.std.proofs.lemmas.List.{take-append-drop}
@@ -29,14 +29,13 @@ use Rattle.mta_session.specs.declared.event.Side.TheVariants as side
 use Rattle.mta_session.specs.declared.peer.Peer.{Peer}
 use Rattle.mta_session.specs.declared.phase.Phase.{Phase}
 use Rattle.mta_session.specs.declared.phase.Phase.TheVariants as phase
-use Rattle.mta_session.specs.Session.{new_initiator, new_responder}
+use Rattle.mta_session.specs.Session.{new_initiator}
 use Rattle.mta_session.specs.State.{State, is_initiator, in_phase}
 use Rattle.mta_session.specs.Wanted.{answer_for, puts_accept, with_lane}
 use Rattle.mta_session.specs.Follows.{Does, counted}
 use Rattle.mta_session.specs.Fits.{FitsAt, IsBlank, HasCall, HasLine}
 use Rattle.mta_session_laws.specs.Runs.{Turn, IsTurn}
 use Rattle.mta_session_laws.specs.Turning.{kept, EventsGo, is_last_phase}
-use Rattle.mta_session_laws.specs.Whole.{AreCalls}
 use Rattle.mta_session_laws.proofs.Opening.{wanted_in}
 use Rattle.mta_session_laws.proofs.Whole.{is_ended}
 use Rattle.mta_session_laws.specs.Order.{is_asking}
@@ -50,29 +49,25 @@ use Rattle.mta_transfer_laws.specs.Sessions.{sending_step_of, send_all, turn_aft
 use Rattle.mta_transfer_laws.specs.Sessions.{transfer_unit}
 use Rattle.mta_lane_match_laws.proofs.Lanes.{lanes_stay}
 use Rattle.mta_lane_match_laws.specs.Asks.{IsAskOf}
-use Rattle.mta_session_list_laws.specs.Calls.{Call, StepOn, turns_of, step_told, list_of}
-use Rattle.mta_session_list_laws.specs.Abandons.{with_abandons}
-use Rattle.mta_session_list_laws.specs.Lists.{HasAt, step_for, step_by, Initiates, Responds, end_begun, completed}
+use Rattle.mta_session_list_laws.specs.Calls.{StepOn, step_told}
+use Rattle.mta_session_list_laws.specs.Lists.{HasAt, step_for, step_by}
 use Rattle.mta_session_list_laws.specs.Lists.{AreValues}
-use Rattle.mta_session_list_laws.specs.Laws.{SendOwesAt, SendOwesNothingAt, KeepsSending, ListsSend}
-use Rattle.mta_session_list_laws.specs.Standing.{Stands, Looks, StandsAs, IsInTurn, ComesTrue, AllComeTrue}
+use Rattle.mta_session_list_laws.specs.Laws.{SendOwesAt, SendOwesNothingAt}
+use Rattle.mta_session_list_laws.specs.Standing.{Stands, Looks, StandsAs, IsInTurn, ComesTrue}
 use Rattle.mta_session_list_laws.proofs.Found.{never}
 use Rattle.mta_session_list_laws.proofs.Lanes.{lane_at, step_leads}
-use Rattle.mta_session_list_laws.proofs.Ordering.{is_some, later_calls, begins_done}
+use Rattle.mta_session_list_laws.proofs.Ordering.{is_some}
 use Rattle.mta_session_list_laws.proofs.ReceivedAll.{open_has, opening_has, opening_lane, opening_not_last}
 use Rattle.mta_session_list_laws.proofs.ReceivedLists.{any_silent}
 use Rattle.mta_session_list_laws.proofs.ReceivingLaw.{opened_half}
-use Rattle.mta_session_list_laws.proofs.ReceivingLists.{Part, at_opening, in_open, at_last, at_none, part, Asked}
-use Rattle.mta_session_list_laws.proofs.ReceivingLists.{asked_next}
+use Rattle.mta_session_list_laws.proofs.ReceivingLists.{Part, at_opening, in_open, at_last, at_none, Asked}
 use Rattle.mta_session_list_laws.proofs.ReceivingLists.{open_not_last}
-use Rattle.mta_session_list_laws.proofs.Turns.{Holds}
-use Rattle.mta_session_list_laws.proofs.TurnsReplies.{PutAllowed, turned}
-use Rattle.mta_session_list_laws.proofs.Waiting.{goes_with, Ready, ready_next, does_at}
-use Rattle.mta_session_list_laws.proofs.SendingGoes.{Allowed, allowed_run, pending}
-use Rattle.mta_session_list_laws.proofs.SendingPhases.{one, SendAt, Has, SendWaits, waits_after}
+use Rattle.mta_session_list_laws.proofs.Waiting.{goes_with}
+use Rattle.mta_session_list_laws.proofs.SendingGoes.{Allowed}
+use Rattle.mta_session_list_laws.proofs.SendingPhases.{one, SendAt, Has, SendWaits}
 use Rattle.mta_session_list_laws.proofs.SendingOpening.{SendTells, is_soon, accept_waits}
-use Rattle.mta_session_list_laws.proofs.SendingLooks.{RestsSend, SendKeeps, With, NotYet}
-use Rattle.mta_session_list_laws.proofs.SendingList.{none_here, come_sends}
+use Rattle.mta_session_list_laws.proofs.SendingLooks.{RestsSend, SendKeeps, NotYet}
+use Rattle.mta_session_list_laws.proofs.SendingList.{none_here}
 
 -- ---- the turn of the lock
 
@@ -281,58 +276,6 @@ module _ (g : EventsGo) (spells : List ℕ → Bool) (history : List Seen) (lane
   lane_next early b a t is k f (at_none i) n =
       absurd (none_here whole size window accepted early t.before.phase t.before a b i k)
 
-  abbrev Yet_at : ℕ → SendEnd → Type 0
-  Yet_at n e = NotYet spells history lane allow n e
-
-  pub calls_send : (cs : List Call) (a : Action) (t u : State) (b c : SendEnd) (behind from : ℕ) (v : x.Turn)
-      → Ready a t → Asked a t → (is_last_phase t.phase ≡ false → t.lane ≡ lane) → s.IsSendingEnd b (pending a) c
-      → SendAt whole size window accepted (from ≡ low) t.phase t a c → PutAllowed a v → Holds t.phase t (turned a v)
-      → Yet_at behind b → low ≤ behind → behind ≤ from → AllComeTrue spells history from a cs
-      → AreCalls t (turns_of cs) u → SendKeeps lane v b (With history lane behind b (list_of a cs))
-  calls_send [] a t u b c behind from v k asked f put here allowed holds yet lo up is run = tt
-  calls_send (d ∷ ds) a t u b c behind from v k asked f put here allowed holds yet lo up is run =
-      let ready : Ready a d.turn.before = subst (Ready a) (sym run.0) k in
-      let asks : Asked a d.turn.before = subst (Asked a) (sym run.0) asked in
-      let keeps : is_last_phase d.turn.before.phase ≡ false → d.turn.before.lane ≡ lane =
-      subst (λ z. is_last_phase z.phase ≡ false → z.lane ≡ lane) (sym run.0) f in
-      let stands : SendAt whole size window accepted (from ≡ low) d.turn.before.phase d.turn.before a c =
-      subst (λ z. SendAt whole size window accepted (from ≡ low) z.phase z a c) (sym run.0) here in
-      let holds_ : Holds d.turn.before.phase d.turn.before (turned a v) =
-      subst (λ z. Holds z.phase z (turned a v)) (sym run.0) holds in
-      let next : is_soon d.turn.before.phase ≡ true → from ≡ low → d.seen ≡ low =
-      λ i e. in_turn spells history d.turn.before.phase a d.turn.event from d.seen is.0 ready.waits i ∙ e in
-      come_sends g spells history lane allow whole size window accepted low (from ≡ low) (d.seen ≡ low) a d.turn d.seen
-      d.turn.event b c behind from v (list_of d.turn.action ds)
-      (record {
-        turn = record { is = run.1; waits = ready.waits; allowed = allowed; holds = holds_ };
-        asked = asks;
-        lane_is = keeps;
-        at = stands;
-        put = put;
-        begun = lo;
-        upto = up;
-        yet = yet;
-        next = next;
-        soon = next;
-      }) refl is.0 run.1.answers
-      (on_event spells history lane allow size window values accepted low d.turn.before.phase d.turn.before a
-      d.turn.event from d.seen asks refl ready.waits is.0 keeps
-      (λ i. next i (early_here d.turn.before.phase d.turn.before a c from i stands)))
-      (λ z e to done after y down above. calls_send ds d.turn.action d.turn.after u e after.ended to d.seen z
-      (ready_next d.turn run.1 ready.due)
-      (asked_next d.turn.action d.turn.before d.turn.event d.turn.after run.1.follows)
-      (lane_next (from ≡ low) c a d.turn run.1 stands keeps (part d.turn.before.phase))
-      after.run after.at done.allowed done.holds y down above is.1 run.2)
-    where
-      early_here : (p : Phase) (t : State) (a : Action) (c : SendEnd) (from : ℕ) → is_soon p ≡ true
-          → SendAt whole size window accepted (from ≡ low) p t a c → from ≡ low
-      early_here phase.Begin t a c from i k = k.3
-      early_here phase.AsksValues t a c from i k = k.2
-      early_here phase.AsksRecovery t a c from i k = k.2
-      early_here (phase.AsksReceiving st) t a c from i k = k.3
-      early_here (phase.AsksResumed st) t a c from i k = k.3
-      early_here p t a c from i k = absurd (never i)
-
 -- ---- where a list begins
 
 dropping_none : (st : SendState) (k : ℕ) → is_sending st (last_of st) ≡ true → st ≡ state.Dropping k → ⊥
@@ -491,56 +434,3 @@ pub keeps_owes : (lane : ℕ) (v : x.Turn) (b : SendEnd) (ys : List SessionEvent
 keeps_owes lane v b [] k = tt
 keeps_owes lane v b (y ∷ ys) k =
     (rests_owes v b y k.0, keeps_owes lane (turn_after v y) (send_all b (sending_event lane y)) ys k.2)
-
-pub sends : (history : List Seen) (lane size window at : ℕ) (initiator : Bool) (a : Action) (cs : List Call)
-    (opening : List SessionEvent)
-    → SendKeeps lane x.Before_accept (end_begun history lane size window at initiator)
-    (With history lane (at + 1) (end_begun history lane size window at initiator) (list_of a cs))
-    → KeepsSending history lane size window initiator
-    (completed history lane size window initiator (record { opening = opening; at = at; events = list_of a cs }))
-sends history lane size window at initiator a cs opening k =
-    let e : SendEnd = end_begun history lane size window at initiator in
-    let ys : List SessionEvent = with_abandons history lane (at + 1) e (list_of a cs) in
-    record {
-      good = record {
-        plain = all_plain lane ys;
-        last_end = send_all e (sending_events lane ys);
-        allowed = allowed_run e (sending_events lane ys) (keeps_allowed lane x.Before_accept e ys k);
-      };
-      owes = keeps_owes lane x.Before_accept e ys k;
-    }
-
-pub lists_send : EventsGo → ListsSend
-lists_send g spells history first u calls lane size window l allow (Initiates p units at cs is true_) values run =
-    sends history p.lane size window at true action.Read cs []
-    (calls_send g spells history p.lane allow size window values false (at + 1) cs action.Read (new_initiator p units) u
-    (one (lane_in p.lane (take (at + 1) history)) size window false)
-    (one (lane_in p.lane (take (at + 1) history)) size window false) (at + 1) (at + 1) x.Before_accept
-    (record { due = refl; waits = refl }) tt (λ n. refl) refl
-    (refl, (λ n. planned g spells history at allow size window p units is n), refl, refl) tt (refl, refl)
-    (begin_yet g spells history at allow size window p.lane false) (omega arith) (omega arith) true_ run)
-lists_send g spells history first u calls lane size window l allow
-    (Responds own units at before cs c y by seen is true_) values run =
-    let start : Ready action.Read (new_responder own units) = record { due = refl; waits = refl } in
-    let later = later_calls before cs c action.Read (new_responder own units) u start run in
-    let begins = begins_done c.turn later.is (is_some (step_by c.turn.before.phase c.turn.event c.turn.after) y by) in
-    let lane_ : ℕ = c.turn.after.lane in
-    let done = does_at c.turn c.turn.event refl later.is (not_ended c.turn.before.phase c.turn.event c.turn.after y by)
-    in
-    let waits = responds g spells history at allow size window c.turn.before.phase c.turn.before c.turn.event
-    c.turn.action c.turn.after y by is later.is.fits values done in
-    let after = waits_after (lane_in lane_ (take (at + 1) history)) size window true (at + 1 ≡ at + 1)
-    (one (lane_in lane_ (take (at + 1) history)) size window true) (counted c.turn.before c.turn.event)
-    (wanted_in c.turn.before.phase (counted c.turn.before c.turn.event) c.turn.event) c.turn.action c.turn.after waits
-    done in
-    sends history lane_ size window at false c.turn.action cs (list_of action.Read before)
-    (calls_send g spells history lane_ allow size window values true (at + 1) cs c.turn.action c.turn.after u
-    (one (lane_in lane_ (take (at + 1) history)) size window true) after.ended (at + 1) (at + 1) x.Before_accept
-    later.ready (asked_next c.turn.action c.turn.before c.turn.event c.turn.after later.is.follows) (λ n. refl)
-    after.run
-    after.at begins.allowed begins.holds (begin_yet g spells history at allow size window lane_ true) (omega arith)
-    (omega arith) true_ later.run)
-  where
-    not_ended : (p : Phase) (e : Event) (new : State) (y : StepOn) → step_by p e new ≡ Some y → is_ended p ≡ false
-    not_ended (phase.Ended z) e new y q = elim (is_some (step_by (phase.Ended z) e new) y q) [ ]
-    not_ended p e new y q = refl

@@ -17,7 +17,7 @@ use Rattle.mta_transfer_laws.specs.Sessions as x
 use Rattle.mta_transfer_laws.specs.Sessions.{SessionEvent, Looked, Made, Got, Refused, Put, Look, sending_event}
 use Rattle.mta_transfer_laws.specs.Sessions.{step_seen}
 use Rattle.mta_transfer_laws.specs.Sessions.{seen_after, StepsStand}
-use Rattle.mta_session_list_laws.specs.Calls.{Call, StepOn, step_told, look_told, told_as, got_as, come_of, list_of}
+use Rattle.mta_session_list_laws.specs.Calls.{Call, StepOn, step_told, look_told, told_as, got_as, come_of}
 use Rattle.mta_session_list_laws.specs.Abandons.{step_upto, has_before}
 use Rattle.mta_session_list_laws.specs.Standing.{StandsAs, ComesTrue, AllComeTrue}
 use Rattle.mta_session_list_laws.specs.Laws.{RisesBehind, Rises}
@@ -67,13 +67,6 @@ module _ (spells : List ℕ → Bool) (history : List Seen) (lane : ℕ) where
   come_rises low from seen p (action.Ask a) t any6 rest le is more = more low (omega (arith, le, is))
   come_rises low from seen p (action.Finish y) t e rest le is more = more low (omega (arith, le, is))
 
-  pub calls_rise : (cs : List Call) (low from : ℕ) (a : Action) → low ≤ from → AllComeTrue spells history from a cs
-      → Rises lane low (list_of a cs)
-  calls_rise [] low from a le is = tt
-  calls_rise (c ∷ cs) low from a le is =
-      come_rises low from c.seen c.turn.before.phase a c.turn c.turn.event (list_of c.turn.action cs) le is.0
-      (λ to more. calls_rise cs to c.seen c.turn.action more is.1)
-
   -- ---- in the history
 
   pub told_stands : (from seen : ℕ) (a : Ask) (y : Reply) (o : Option StepOn) (look : Look) (rest : List SessionEvent)
@@ -97,13 +90,6 @@ module _ (spells : List ℕ → Bool) (history : List Seen) (lane : ℕ) where
       told_stands from seen a y (step_told a y) (look_told a y) rest is.1 more
   come_stands from seen p (action.Ask a) t any5 rest is more = more
   come_stands from seen p any3 t e rest is more = more
-
-  pub calls_stand : (cs : List Call) (from : ℕ) (a : Action) → AllComeTrue spells history from a cs
-      → StepsStand history (list_of a cs)
-  calls_stand [] from a is = tt
-  calls_stand (c ∷ cs) from a is =
-      come_stands from c.seen c.turn.before.phase a c.turn c.turn.event (list_of c.turn.action cs) is.0
-      (calls_stand cs c.seen c.turn.action is.1)
 
 -- ---- a list of calls in two parts
 

@@ -1,5 +1,5 @@
 -- Call by call a session's list keeps the turn.
-use Rattle.std.proofs.Common.{◌≡◌, ℕ, ◌==◌, ◌-◌, true, false, Option, Some, None, List, [], ◌∷◌, ◌++◌, refl, sym}
+use Rattle.std.proofs.Common.{◌≡◌, ℕ, ◌==◌, ◌-◌, true, false, Option, Some, None, List, ◌∷◌, ◌++◌, refl, sym}
 use Rattle.std.proofs.Common.{subst}
 use Rattle.mta_session.specs.declared.event.Event.{Event}
 use Rattle.mta_session.specs.declared.event.Event.TheVariants as event
@@ -13,14 +13,13 @@ use Rattle.mta_session.specs.Wanted.{Aborts, within}
 use Rattle.mta_session.specs.Follows.{counted}
 use Rattle.mta_session.specs.Fits.{AnswersAt}
 use Rattle.mta_session_laws.specs.Runs.{Turn, IsTurn}
-use Rattle.mta_session_laws.specs.Whole.{AreCalls}
 use Rattle.mta_session_laws.proofs.Opening.{wanted_in}
 use Rattle.mta_session_laws.specs.Order.{takes_unit}
 use Rattle.mta_transfer_laws.specs.Sessions as x
 use Rattle.mta_transfer_laws.specs.Sessions.{SessionEvent, Put, Looked, Made, Look, KeepsTurn, TurnAllows, turn_after}
-use Rattle.mta_session_list_laws.specs.Calls.{Call, StepOn, turns_of, step_told, look_told, told_as, come_of, list_of}
+use Rattle.mta_session_list_laws.specs.Calls.{StepOn, step_told, look_told, told_as, come_of}
 use Rattle.mta_session_list_laws.proofs.Found.{never}
-use Rattle.mta_session_list_laws.proofs.Waiting.{goes_with, Ready, ready_next, going, is_finish, none_put, none_asked}
+use Rattle.mta_session_list_laws.proofs.Waiting.{goes_with, going, is_finish, none_put, none_asked}
 use Rattle.mta_session_list_laws.proofs.Waiting.{none_first, does_at, over_says}
 use Rattle.mta_session_list_laws.proofs.Turns.{Holds, TurnGoes, if_goes}
 use Rattle.mta_session_list_laws.proofs.TurnsUnits.{reads_list, reading_aborts, unit_goes}
@@ -154,16 +153,3 @@ come_turns (action.Ask a) t seen event.BadUnit v rest k q more =
     absurd (none_asked t.before.phase t.before event.BadUnit k.waits
     (subst (λ z. AnswersAt t.before.phase t.before z) q k.is.answers) refl)
 come_turns (action.Finish y) t seen e v rest k q more = more v (over_done y t v k)
-
--- ---- all calls
-
-pub calls_turn : (cs : List Call) (a : Action) (t u : State) (v : x.Turn) → Ready a t → PutAllowed a v
-    → Holds t.phase t (turned a v) → AreCalls t (turns_of cs) u → KeepsTurn v (list_of a cs)
-calls_turn [] a t u v k p h run = tt
-calls_turn (c ∷ cs) a t u v k p h run =
-    let here : Ready a c.turn.before = subst (Ready a) (sym run.0) k in
-    let holds : Holds c.turn.before.phase c.turn.before (turned a v) = subst (λ z. Holds z.phase z (turned a v))
-    (sym run.0) h in
-    come_turns a c.turn c.seen c.turn.event v (list_of c.turn.action cs)
-    (record { is = run.1; waits = here.waits; allowed = p; holds = holds }) refl
-    (λ z d. calls_turn cs c.turn.action c.turn.after u z (ready_next c.turn run.1 here.due) d.allowed d.holds run.2)

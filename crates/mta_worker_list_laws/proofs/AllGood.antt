@@ -1,26 +1,23 @@
 -- The session lists of all workers are good.
-use Rattle.std.proofs.Common.{◌≡◌, ◌≤◌, ℕ, ◌+◌, ◌-◌, Bool, false, List, length, Option, None, Some}
-use Rattle.std.proofs.Common.{◌++◌, true, refl, subst, arith}
+use Rattle.std.proofs.Common.{◌≡◌, ◌≤◌, ℕ, ◌+◌, ◌-◌, Bool, List, length, Option, None, Some}
+use Rattle.std.proofs.Common.{◌++◌, refl, subst, arith}
 use Rattle.mta_edge.specs.Views.{ClockView, DiskView}
 use Rattle.mta_links.specs.Links.{LinkView, StationView}
 use Rattle.mta_units.specs.declared.unit.Unit.TheVariants.{EndAck}
 use Rattle.mta_transfer_rules.specs.Lanes.{lane_in, Seen}
 use Rattle.mta_transfer_laws.specs.History.{IsOfLanes}
 use Rattle.mta_records.specs.declared.step.Step.{Step}
-use Rattle.mta_session.specs.State.{is_initiator, State}
-use Rattle.mta_session.specs.declared.event.Action.{Action}
-use Rattle.mta_session.specs.declared.event.Event.{Event}
+use Rattle.mta_session.specs.State.{is_initiator}
 use Rattle.mta_session.specs.declared.event.Event.TheVariants as event
 use Rattle.mta_transfer_laws.specs.Acknowledged.{HasPut, IsCompleted}
 use Rattle.mta_transfer_laws.specs.Sessions.{IsGoodSession, SessionList}
 use Rattle.mta_transfer_laws.proofs.Kept.{end_acks-kept}
-use Rattle.mta_session_list_laws.specs.Calls.{Call}
-use Rattle.mta_session_list_laws.specs.Laws.{ListsAreGood, ListsMayStop}
+use Rattle.mta_session_list_laws.specs.Laws.{ListsAreGood}
 use Rattle.mta_session_list_laws.specs.Lists.{AreValues, completed}
-use Rattle.mta_session_list_laws.specs.Lost.{abort_of, stopped}
+use Rattle.mta_session_list_laws.specs.Over.{list_over}
 use Rattle.mta_worker_list_laws.specs.All.{AllAreGood, AllParts, AreGood, IsGoodWhere}
-use Rattle.mta_worker_list_laws.specs.Begun.{Ended, IsOver, Stopped, Untold}
-use Rattle.mta_worker_list_laws.specs.Good.{IsListOver, IsStopped}
+use Rattle.mta_worker_list_laws.specs.Begun.{over_as}
+use Rattle.mta_worker_list_laws.specs.Good.{IsListOver}
 use Rattle.mta_worker_list_laws.specs.Histories.{place, whole}
 use Rattle.mta_worker_list_laws.specs.Parts.{IsSession}
 use Rattle.mta_worker_list_laws.specs.Segments.{Begins, BeginsIn, IsOne, ListsAs, OnLane, Segment, told_over}
@@ -30,25 +27,7 @@ use Rattle.mta_worker_list_laws.proofs.Apart.{opening_apart, put_with, session_a
 use Rattle.mta_worker_list_laws.proofs.Segments.{has_in, is_segment}
 use Rattle.mta_worker_list_laws.proofs.Whole.{segments_are_good}
 
--- the list with what came of the last action, and with the Abort that was put
-list_stopped : (calls : List Call) (l : SessionList) (upto : ℕ) (came : Option Event) (aborts : Bool)
-    → (m : SessionList) × IsStopped calls l upto came aborts m
-list_stopped calls l upto None false = (l, refl)
-list_stopped calls l upto None true =
-    (record { opening = l.opening; at = l.at; events = l.events ++ abort_of true }, refl)
-list_stopped calls l upto (Some e) aborts =
-    (stopped calls l (record { event = e; seen = upto; aborts = aborts }), refl)
-
-pub list_behind : (spells : List ℕ → Bool) (history : List Seen) (mid upto : ℕ) (u : State) (b : Action)
-    (calls : List Call) (l : SessionList) (o : IsOver spells history mid upto u b)
-    → (m : SessionList) × IsListOver calls l o m
-list_behind spells history mid upto u b calls l (Ended e is same) = (l, refl)
-list_behind spells history mid upto u b calls l (Stopped came aborts at may going same) =
-    list_stopped calls l upto came aborts
-list_behind spells history mid upto u b calls l (Untold q x aborts is comes answers going) =
-    (stopped calls l (record { event = event.Reply x; seen = upto; aborts = aborts }), refl)
-
-module _ {L : Type 0} (links : LinkView L) (good : ListsAreGood) (may_stop : ListsMayStop) (spells : List ℕ → Bool)
+module _ {L : Type 0} (links : LinkView L) (good : ListsAreGood) (spells : List ℕ → Bool)
     (first entries : List Step) (low : ℕ) (allow : IsOfLanes spells (whole first entries))
     (all : AllParts links spells first entries low) where
   abbrev history : List Seen
@@ -72,7 +51,7 @@ module _ {L : Type 0} (links : LinkView L) (good : ListsAreGood) (may_stop : Lis
       → IsGoodSession spells history on.lane size window (is_initiator x.new.side)
       (completed history on.lane size window (is_initiator x.new.side) m)
   one_is_good s x on i e listed m size window over values =
-      segments_are_good good may_stop spells history (length first) low (place first x.begun)
+      segments_are_good good spells history (length first) low (place first x.begun)
       (place first x.ran.done.mid) (place first x.over) all.parts s x.new x.ran.done.last x.ran.done.wanted x.calls
       x.ran.begins x.ran.done.over on listed.0 m size window allow all.all i x.of_it e (begins_later s on i e)
       x.ran.done.leads listed.1 listed.2 listed.3 over values
@@ -102,8 +81,7 @@ module _ {L : Type 0} (links : LinkView L) (good : ListsAreGood) (may_stop : Lis
     is_list = listed.1;
     apart = opening_apart spells history x.new x.ran.done.last x.calls on.lane listed.0 listed.1
         x.ran.done.leads.calls_are;
-    behind = list_behind spells history (place first x.ran.done.mid) (place first x.over) x.ran.done.last
-        x.ran.done.wanted x.calls listed.0 x.ran.done.over;
+    behind = (list_over x.calls listed.0 (over_as x.ran.done.over), refl);
     kept = kept s x on i e listed;
     good = one_is_good s x on i e listed;
   }
@@ -111,15 +89,15 @@ module _ {L : Type 0} (links : LinkView L) (good : ListsAreGood) (may_stop : Lis
   pub parts_are_good : AreGood links spells first entries all.parts
   parts_are_good s x i = list_good s x s.list i refl x.of_it.list
 
-pub all_are_good : ListsAreGood → ListsMayStop → {D C L S : Type 0} (disks : DiskView D) (clocks : ClockView C)
+pub all_are_good : ListsAreGood → {D C L S : Type 0} (disks : DiskView D) (clocks : ClockView C)
     (links : LinkView L) (stations : StationView S) → AllAreGood disks clocks links stations
-all_are_good good may_stop disks clocks links stations spells first front entries back limits before after ends base
+all_are_good good disks clocks links stations spells first front entries back limits before after ends base
     tells based none w =
     let all = all_have_parts disks clocks links stations spells first front entries back limits before after ends base
     tells based none w in (
       all.0,
       all.1,
-      parts_are_good links good may_stop spells first (entries ++ back) (length front)
+      parts_are_good links good spells first (entries ++ back) (length front)
           (of_lanes spells (first ++ (entries ++ back)) tells based.possible) all.0,
       all.2,
     )

@@ -28,13 +28,13 @@ use Rattle.mta_session_list_laws.specs.Abandons.{abandon_at, abandoned_upto, giv
 use Rattle.mta_session_list_laws.specs.Calls.{action_of, Call, come_of, event_of, got_as, list_of, look_told, step_told}
 use Rattle.mta_session_list_laws.specs.Calls.{StepOn, told_as, turns_of}
 use Rattle.mta_session_list_laws.specs.Lists.{Initiates, IsListOf, Responds, step_by}
-use Rattle.mta_session_list_laws.specs.Lost.{abort_of, lost_of}
+use Rattle.mta_session_list_laws.specs.Over.{abort_of, came_of, Over, untold_of}
 use Rattle.mta_session_list_laws.proofs.Found.{never}
 use Rattle.mta_session_list_laws.proofs.Ordering.{begins_done, is_some, IsSome}
 use Rattle.mta_session_list_laws.proofs.TurnsReplies.{turned}
 use Rattle.mta_session_list_laws.proofs.Waiting.{does_at, is_finish, over_says, Ready, ready_next}
 use Rattle.mta_worker_list_laws.specs.Apart.{events_over, IsApart, PutsApart}
-use Rattle.mta_worker_list_laws.specs.Begun.{Calls, Ended, GiveNone, IsNewAt, IsOver, Listens, Stopped, Untold}
+use Rattle.mta_worker_list_laws.specs.Begun.{Calls, GiveNone, IsNewAt, IsOver, Listens, over_as}
 use Rattle.mta_worker_list_laws.specs.Leads.{Leads}
 use Rattle.mta_worker_list_laws.proofs.Calm.{ended_over}
 use Rattle.mta_worker_list_laws.proofs.Keeping.{Listed, listed_next, not_first}
@@ -107,23 +107,25 @@ abort_apart : (b : Bool) → PutsApart (abort_of b)
 abort_apart true = (tt, tt)
 abort_apart false = tt
 
-lost_apart : (b : Action) (seen : ℕ) (e : Event) (aborts : Bool) → IsApartAction b
-    → PutsApart (lost_of b seen e ++ abort_of aborts)
-lost_apart (action.Put u) seen e aborts i = (i, abort_apart aborts)
-lost_apart action.Read seen (event.Unit u) aborts i = abort_apart aborts
-lost_apart action.Read seen any2 aborts i = abort_apart aborts
-lost_apart (action.Ask q) seen (event.Reply y) aborts i =
+came_apart : (b : Action) (seen : ℕ) (e : Event) (aborts : Bool) → IsApartAction b
+    → PutsApart (came_of b seen e ++ abort_of aborts)
+came_apart (action.Put u) seen e aborts i = (i, abort_apart aborts)
+came_apart action.Read seen (event.Unit u) aborts i = abort_apart aborts
+came_apart action.Read seen any2 aborts i = abort_apart aborts
+came_apart (action.Ask q) seen (event.Reply y) aborts i =
     told_apart seen (step_told q y) (look_told q y) (abort_of aborts) (abort_apart aborts)
-lost_apart (action.Ask q) seen any2 aborts i = abort_apart aborts
-lost_apart (action.Finish y) seen e aborts i = abort_apart aborts
+came_apart (action.Ask q) seen any2 aborts i = abort_apart aborts
+came_apart (action.Finish y) seen e aborts i = abort_apart aborts
+
+untold_apart : (b : Action) (seen : ℕ) (o : Option Event) (aborts : Bool) → IsApartAction b
+    → PutsApart (untold_of b seen o ++ abort_of aborts)
+untold_apart b seen None aborts i = abort_apart aborts
+untold_apart b seen (Some e) aborts i = came_apart b seen e aborts i
 
 tail_apart : (spells : List ℕ → Bool) (history : List Seen) (from upto : ℕ) (u : State) (b : Action)
     (o : IsOver spells history from upto u b) → IsApartAction b → PutsApart (events_over o)
-tail_apart spells history from upto u b (Ended e is same) i = tt
-tail_apart spells history from upto u b (Stopped None aborts at may going same) i = abort_apart aborts
-tail_apart spells history from upto u b (Stopped (Some e) aborts at may going same) i = lost_apart b upto e aborts i
-tail_apart spells history from upto u b (Untold q y aborts is comes answers going) i =
-    lost_apart b upto (event.Reply y) aborts i
+tail_apart spells history from upto u b o i =
+    let x : Over = over_as o in untold_apart b x.seen x.untold x.aborts i
 
 -- ---- calls of which none gives it a lane
 

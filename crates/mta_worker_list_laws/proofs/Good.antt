@@ -1,5 +1,6 @@
 -- Lists of sessions that workers served are good ones.
-use Rattle.std.proofs.Common.{◌≡◌, ◌⊎◌, ℕ, ◌+◌, Bool, true, false, List, [], ◌∷◌, inl, inr, refl, sym, subst, ◌∙◌}
+use Rattle.std.proofs.Common.{◌≡◌, ◌⊎◌, ℕ, ◌+◌, Bool, true, false, None, Some, List, [], ◌∷◌, inl, inr, refl, sym}
+use Rattle.std.proofs.Common.{subst, ◌∙◌}
 use Rattle.mta_transfer_rules.specs.Lanes.{Seen}
 use Rattle.mta_transfer_laws.specs.History.{IsOfLanes}
 use Rattle.mta_session.specs.Fits.{Answers, Fits}
@@ -12,18 +13,19 @@ use Rattle.mta_session.specs.declared.event.Action.{Action}
 use Rattle.mta_session.specs.declared.event.Action.TheVariants as action
 use Rattle.mta_session.specs.declared.event.Event.TheVariants as event
 use Rattle.mta_session_laws.specs.Whole.{AreCalls}
-use Rattle.mta_transfer_laws.specs.Sessions.{IsGoodSession, SessionList}
+use Rattle.mta_transfer_laws.specs.Sessions.{SessionList}
 use Rattle.mta_session_list_laws.specs.Calls.{action_of, Call, list_of, turns_of}
-use Rattle.mta_session_list_laws.specs.Laws.{ListsAreGood, ListsMayStop, OpensFirst, OwnsPieces}
-use Rattle.mta_session_list_laws.specs.Lists.{AreValues, completed, Initiates, IsListOf, Responds}
-use Rattle.mta_session_list_laws.specs.Lost.{IsLost, Lost, seen_of, stopped}
+use Rattle.mta_session_list_laws.specs.Laws.{ListsAreGood, OpensFirst}
+use Rattle.mta_session_list_laws.specs.Lists.{AreValues, Initiates, IsListOf, Responds}
+use Rattle.mta_session_list_laws.specs.Over.{EndsAs, list_over, seen_of}
 use Rattle.mta_session_list_laws.specs.Standing.{AllComeTrue, ComesTrue}
-use Rattle.mta_worker_list_laws.specs.Begun.{Calls, Ended, GiveNone, IsNewAt, IsOver, Listens, Stopped}
+use Rattle.mta_session_list_laws.proofs.Found.{never}
+use Rattle.mta_worker_list_laws.specs.Begun.{Calls, Ended, GiveNone, IsNewAt, IsOver, Listens, over_as, Stopped}
 use Rattle.mta_worker_list_laws.specs.Begun.{Untold}
-use Rattle.mta_worker_list_laws.specs.Good.{IsListOver, SessionsAreGood, SessionsHaveLists}
+use Rattle.mta_worker_list_laws.specs.Good.{SessionsAreGood, SessionsHaveLists}
 use Rattle.mta_worker_list_laws.specs.Leads.{Leads}
 use Rattle.mta_worker_list_laws.proofs.Responding.{Begins, begins_or_not}
-use Rattle.mta_worker_list_laws.proofs.Stopped.{stopped_good}
+use Rattle.mta_worker_list_laws.proofs.Stopped.{fits_behind, good_over, IsGood, Owns, stopped_good}
 
 -- ---- which list
 
@@ -74,12 +76,7 @@ opens_first history from t (Listens own units n) = tt
 fits_then : (calls : List Call) (a : Action) (t u : State) (q : Ask) → AreCalls t (turns_of calls) u
     → action_of a calls ≡ action.Ask q → (a ≡ action.Ask q → ⊥) → Fits u
 fits_then [] a t u q run e none = absurd (none e)
-fits_then (c ∷ []) a t u q run e none = subst (λ (z : State). Fits z) (sym run.2) run.1.fits_after
-fits_then (c ∷ d ∷ ds) a t u q run e none = fits_behind (d ∷ ds) c.turn.after u run.1.fits_after run.2
-  where
-    fits_behind : (cs : List Call) (t u : State) → Fits t → AreCalls t (turns_of cs) u → Fits u
-    fits_behind [] t u f run = subst (λ (z : State). Fits z) (sym run) f
-    fits_behind (c ∷ cs) t u f run = fits_behind cs c.turn.after u run.1.fits_after run.2
+fits_then (c ∷ cs) a t u q run e none = fits_behind cs c.turn.after u run.1.fits_after run.2
 
 -- the length of the history behind some calls
 seen_behind : (calls : List Call) (from low : ℕ) (a : Action) (q : Ask) → action_of a calls ≡ action.Ask q
@@ -90,58 +87,52 @@ seen_behind (c ∷ cs) from low a q e none = refl
 pub read_asks : (q : Ask) → action.Read ≡ action.Ask q → ⊥
 read_asks q e = cc
 
-module _ (whole : ListsAreGood) (may_stop : ListsMayStop) (spells : List ℕ → Bool) (history : List Seen) (t : State)
-    (calls : List Call) (lane : ℕ) (l : SessionList) (size window : ℕ) (allow : IsOfLanes spells history)
+module _ (good : ListsAreGood) (spells : List ℕ → Bool) (history : List Seen) (t : State) (calls : List Call)
+    (lane : ℕ) (l : SessionList) (size window : ℕ) (allow : IsOfLanes spells history)
     (is_list : IsListOf spells history t calls lane l) (values : AreValues history lane size window)
     (opens : OpensFirst t.side) where
-  abbrev Owns : SessionList → Type 0
-  Owns m = OwnsPieces history lane (completed history lane size window (is_initiator t.side) m)
-
-  abbrev IsGood : SessionList → Type 0
-  IsGood m =
-      IsGoodSession spells history lane size window (is_initiator t.side)
-      (completed history lane size window (is_initiator t.side) m)
-
-  told_good : (m : SessionList) (u : State) → m ≡ l → AreCalls t (turns_of calls) u → Owns m → IsGood m
-  told_good m u same run owns =
-      subst IsGood (sym same)
-      (whole spells history t u calls lane size window l allow is_list values opens (subst Owns same owns) run)
-
-  untold_good : (m : SessionList) (u : State) (b : Action) (from mid upto : ℕ) (q : Ask) (x : Reply) (aborts : Bool)
-      → m ≡ stopped calls l (record { event = event.Reply x; seen = upto; aborts = aborts })
+  untold_ends : (u : State) (b : Action) (from mid upto : ℕ) (q : Ask) (x : Reply) (aborts : Bool)
       → Leads spells history from t action.Read calls mid u b → b ≡ action.Ask q
       → ComesTrue spells history mid upto u.phase (action.Ask q) (event.Reply x) → Answers u (event.Reply x)
-      → (aborts ≡ true → has_turned u.phase ≡ false) → Owns m → IsGood m
-  untold_good m u b from mid upto q x aborts same led is true_ answers turned owns =
-      let y : Lost = record { event = event.Reply x; seen = upto; aborts = aborts } in
+      → (aborts ≡ true → has_turned u.phase ≡ false)
+      → EndsAs spells history (seen_of (l.at + 1) calls) (action_of action.Read calls) u
+      (record { untold = Some (event.Reply x); seen = upto; aborts = aborts })
+  untold_ends u b from mid upto q x aborts led is true_ answers turned =
       let wants : action_of action.Read calls ≡ action.Ask q = led.wanted ∙ is in
       let place : mid ≡ seen_of (l.at + 1) calls =
       sym led.seen ∙ seen_behind calls from (l.at + 1) action.Read q wants (read_asks q) in
-      let lost : IsLost spells history (seen_of (l.at + 1) calls) (action_of action.Read calls) u y = record {
-        fits = fits_then calls action.Read t u q led.calls_are wants (read_asks q);
-        answers = answers;
-        stands =
-            subst (λ (a : Action). ComesTrue spells history (seen_of (l.at + 1) calls) upto u.phase a (event.Reply x))
-            (sym wants)
-            (subst (λ (n : ℕ). ComesTrue spells history n upto u.phase (action.Ask q) (event.Reply x)) place true_);
+      record {
+        came = record {
+          fits = fits_then calls action.Read t u q led.calls_are wants (read_asks q);
+          answers = answers;
+          stands =
+              subst (λ (a : Action). ComesTrue spells history (seen_of (l.at + 1) calls) upto u.phase a (event.Reply x))
+              (sym wants)
+              (subst (λ (n : ℕ). ComesTrue spells history n upto u.phase (action.Ask q) (event.Reply x)) place true_);
+        };
         going = turned;
-      } in
-      subst IsGood (sym same)
-      (may_stop spells history t u calls lane size window l y allow is_list values opens (subst Owns same owns)
-      led.calls_are lost)
+      }
 
-  over_good : (m : SessionList) (u : State) (b : Action) (from mid upto : ℕ) → IsNewAt history from t
+  over_good : (u : State) (b : Action) (from mid upto : ℕ) → IsNewAt history from t
       → Leads spells history from t action.Read calls mid u b → (o : IsOver spells history mid upto u b)
-      → IsListOver calls l o m → Owns m → IsGood m
-  over_good m u b from mid upto new led (Ended e is same) so owns = told_good m u so led.calls_are owns
-  over_good m u b from mid upto new led (Stopped came aborts at may going same) so owns =
-      stopped_good whole may_stop spells history t lane l size window allow values opens calls m u b from mid upto came
-      aborts new is_list led same at may going so owns
-  over_good m u b from mid upto new led (Untold q x aborts is true_ answers going) so owns =
-      untold_good m u b from mid upto q x aborts so led is true_ answers going owns
+      → Owns good spells history t lane l size window allow values opens (list_over calls l (over_as o))
+      → IsGood good spells history t lane l size window allow values opens (list_over calls l (over_as o))
+  over_good u b from mid upto new led (Ended e is same) owns =
+      good_over good spells history t lane l size window allow values opens calls u
+      (record { untold = None; seen = upto; aborts = false }) is_list
+      led.calls_are (record { came = tt; going = λ i. absurd (never i) }) owns
+  over_good u b from mid upto new led (Stopped came aborts at may going same) owns =
+      stopped_good good spells history t lane l size window allow values opens calls u b from mid upto came aborts new
+      is_list led same at may going owns
+  over_good u b from mid upto new led (Untold q x aborts is true_ answers going) owns =
+      good_over good spells history t lane l size window allow values opens calls u
+      (record { untold = Some (event.Reply x); seen = upto; aborts = aborts }) is_list led.calls_are
+      (untold_ends u b from mid upto q x aborts led is true_ answers going) owns
 
-pub sessions_good : ListsAreGood → ListsMayStop → SessionsAreGood
-sessions_good whole may_stop spells history from mid upto t u b calls lane l m size window allow new led over is_list so
-    values owns =
-    over_good whole may_stop spells history t calls lane l size window allow is_list values
-    (opens_first history from t new) m u b from mid upto new led over so owns
+pub sessions_good : ListsAreGood → SessionsAreGood
+sessions_good good spells history from mid upto t u b calls lane l m size window allow new led over is_list so values
+    owns =
+    let opens : OpensFirst t.side = opens_first history from t new in
+    subst (IsGood good spells history t lane l size window allow values opens) (sym so)
+    (over_good good spells history t calls lane l size window allow is_list values opens u b from mid upto new led over
+    (subst (Owns good spells history t lane l size window allow values opens) so owns))

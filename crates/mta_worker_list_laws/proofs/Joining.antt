@@ -11,7 +11,7 @@ use Rattle.mta_session.specs.declared.event.Action.{Action}
 use Rattle.mta_session_laws.specs.Runs.{Turn}
 use Rattle.mta_session_laws.specs.Whole.{AreCalls}
 use Rattle.mta_session_list_laws.specs.Calls.{Call, turns_of, action_of}
-use Rattle.mta_session_list_laws.specs.Lost.{seen_of}
+use Rattle.mta_session_list_laws.specs.Over.{seen_of}
 use Rattle.mta_session_list_laws.specs.Standing.{AllComeTrue}
 use Rattle.mta_session_run.specs.Running.{units_of}
 use Rattle.mta_worker_list_laws.specs.Leads.{AreCarried, got_in, Leads, made_by, made_in, PutIn}

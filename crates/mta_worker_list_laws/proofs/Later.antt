@@ -12,7 +12,7 @@ use Rattle.mta_session.specs.declared.event.Event.{Event}
 use Rattle.mta_session.specs.declared.event.Event.TheVariants as event
 use Rattle.mta_session.specs.declared.phase.Phase.{Phase}
 use Rattle.mta_session_list_laws.specs.Calls.{Call, StepOn, step_told}
-use Rattle.mta_session_list_laws.specs.Lost.{seen_of}
+use Rattle.mta_session_list_laws.specs.Over.{seen_of}
 use Rattle.mta_session_list_laws.specs.Standing.{AllComeTrue, ComesTrue, StandsAs}
 use Rattle.mta_shared.specs.Counts.{times}
 use Rattle.mta_shared.proofs.Sums.{times-append}

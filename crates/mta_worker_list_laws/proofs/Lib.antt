@@ -20,7 +20,6 @@ pub mod Ending
 pub mod Responding
 pub mod Initiating
 pub mod Linked
-pub mod Aborting
 pub mod Stopped
 pub mod Good
 pub mod Segments

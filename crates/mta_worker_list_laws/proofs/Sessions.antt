@@ -34,7 +34,7 @@ use Rattle.mta_lane_match_laws.specs.Asks.{IsAskOf, IsForOpen}
 use Rattle.mta_lane_match_laws.specs.Generations.{Begins as BeginsHere}
 use Rattle.mta_session_list_laws.specs.Calls.{action_of, Call, list_of, StepOn, turns_of}
 use Rattle.mta_session_list_laws.specs.Lists.{HasAt, Initiates, IsListOf, Responds, step_by, step_for}
-use Rattle.mta_session_list_laws.specs.Lost.{seen_of}
+use Rattle.mta_session_list_laws.specs.Over.{seen_of}
 use Rattle.mta_session_list_laws.specs.Standing.{AllComeTrue, ComesTrue}
 use Rattle.mta_session_list_laws.proofs.Found.{never}
 use Rattle.mta_session_list_laws.proofs.Ordering.{begins_done, is_some}

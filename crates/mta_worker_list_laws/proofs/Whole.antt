@@ -1,7 +1,7 @@
 -- The list of a session that is one of the parts of a history is a good one.
-use Rattle.std.proofs.Common.{◌≡◌, ◌<◌, ℕ, suc, ◌+◌, Bool, true, false, Option, None, Some, List, [], ◌∷◌, ◌++◌, take}
+use Rattle.std.proofs.Common.{◌≡◌, ◌<◌, ℕ, suc, ◌+◌, Bool, false, Option, None, Some, List, [], ◌∷◌, ◌++◌, take}
 use Rattle.std.proofs.Common.{inl, inr}
-use Rattle.std.proofs.Common.{refl, sym, ap, subst, ◌∙◌, arith, slice_get, append-nil}
+use Rattle.std.proofs.Common.{refl, sym, ap, subst, ◌∙◌, arith, slice_get}
 use Rattle.mta_transfer_rules.specs.Sending.{SendEnd}
 use Rattle.mta_transfer_rules.specs.Lanes.{Bind, Complete, Drop, Halves, halves_after, lane_in, LaneOpen, LanesAllow}
 use Rattle.mta_transfer_rules.specs.Lanes.{On}
@@ -9,20 +9,19 @@ use Rattle.mta_transfer_rules.specs.Lanes.{Secure, Seen, SeenStep}
 use Rattle.mta_session.specs.State.{is_initiator, State}
 use Rattle.mta_session.specs.declared.event.Action.{Action}
 use Rattle.mta_session.specs.declared.event.Action.TheVariants as action
-use Rattle.mta_session.specs.declared.event.Event.{Event}
 use Rattle.mta_session.specs.declared.event.Event.TheVariants as event
 use Rattle.mta_transfer_laws.specs.Sessions.{Made, seen_after, send_all, sending_event, SessionEvent, SessionList}
 use Rattle.mta_lane_match_laws.specs.Generations.{Begins as BeginsHere, BeginsAt}
 use Rattle.mta_session_list_laws.specs.Abandons.{abandon_at, abandoned_upto, given_up, has_before, with_abandons}
 use Rattle.mta_session_list_laws.specs.Calls.{action_of, Call, look_told, step_told, told_as}
-use Rattle.mta_session_list_laws.specs.Laws.{IsIn, IsPiece, ListsAreGood, ListsMayStop, OwnsPieces}
+use Rattle.mta_session_list_laws.specs.Laws.{IsIn, IsPiece, ListsAreGood, OwnsPieces}
 use Rattle.mta_session_list_laws.specs.Lists.{completed}
-use Rattle.mta_session_list_laws.specs.Lost.{abort_of, lost_of, tail_of}
+use Rattle.mta_session_list_laws.specs.Over.{abort_of, came_of, Over, tail_of}
 use Rattle.mta_session_list_laws.proofs.Lanes.{step_leads}
 use Rattle.mta_transfer_laws.specs.History.{lane_upto}
 use Rattle.mta_transfer_laws.proofs.Histories.{upto-take}
-use Rattle.mta_worker_list_laws.specs.Begun.{Ended, IsOver, Stopped, Untold}
-use Rattle.mta_worker_list_laws.specs.Good.{IsListOver, IsStopped}
+use Rattle.mta_worker_list_laws.specs.Begun.{Ended, IsOver, over_as, Stopped, Untold}
+use Rattle.mta_worker_list_laws.specs.Good.{IsListOver}
 use Rattle.mta_worker_list_laws.specs.Segments.{Begins, BeginsIn, IsOwnStep, OnLane, SegmentsAreGood}
 use Rattle.mta_worker_list_laws.specs.Segments.{told_over}
 use Rattle.mta_worker_list_laws.proofs.Good.{sessions_good}
@@ -54,48 +53,28 @@ with_in history lane y (x ∷ xs) from e i =
     behind_in y (abandon_at lane e found) (x ∷ with_abandons history lane then after xs)
     (elim i [ inl same ↦ inl same | inr more ↦ inr (with_in history lane y xs then after more) ])
 
--- whatever came of an action at the link
-stopped_in : (calls : List Call) (l m : SessionList) (upto : ℕ) (came : Option Event) (aborts : Bool)
-    (y : SessionEvent) → IsStopped calls l upto came aborts m → IsIn y l.events → IsIn y m.events
-stopped_in calls l m upto None false y is i = subst (λ (z : SessionList). IsIn y z.events) (sym is) i
-stopped_in calls l m upto None true y is i =
-    subst (λ (z : SessionList). IsIn y z.events) (sym is) (before_in y l.events (abort_of true) i)
-stopped_in calls l m upto (Some e) aborts y is i =
-    subst (λ (z : SessionList). IsIn y z.events) (sym is)
-    (before_in y l.events
-    (tail_of (action_of action.Read calls) (record { event = e; seen = upto; aborts = aborts })) i)
-
-stopped_at : (calls : List Call) (l m : SessionList) (upto : ℕ) (came : Option Event) (aborts : Bool)
-    → IsStopped calls l upto came aborts m → m.at ≡ l.at
-stopped_at calls l m upto None false is = ap (λ (z : SessionList). z.at) is
-stopped_at calls l m upto None true is = ap (λ (z : SessionList). z.at) is
-stopped_at calls l m upto (Some e) aborts is = ap (λ (z : SessionList). z.at) is
-
 -- what came of the last action
 pub over_in : (spells : List ℕ → Bool) (history : List Seen) (mid upto : ℕ) (u : State) (b : Action) (calls : List Call)
     (l m : SessionList) (o : IsOver spells history mid upto u b) (y : SessionEvent) → action_of action.Read calls ≡ b
     → IsListOver calls l o m → IsIn y (l.events ++ told_over o) → IsIn y m.events
-over_in spells history mid upto u b calls l m (Ended e is same) y w so i =
-    subst (λ (z : SessionList). IsIn y z.events) (sym so)
-    (subst (λ (zs : List SessionEvent). IsIn y zs) (append-nil l.events) i)
-over_in spells history mid upto u b calls l m (Stopped came aborts at may going same) y w so i =
-    stopped_in calls l m upto came aborts y so
-    (subst (λ (zs : List SessionEvent). IsIn y zs) (append-nil l.events) i)
-over_in spells history mid upto u b calls l m (Untold q x aborts is comes answers going) y w so i =
-    let told : List SessionEvent = told_as upto (step_told q x) (look_told q x) ∷ [] in
-    let asks : action_of action.Read calls ≡ action.Ask q = w ∙ is in
-    let tail : IsIn y (l.events ++ (told ++ abort_of aborts)) =
-    in_either y l.events told (told ++ abort_of aborts) (before_in y told (abort_of aborts)) i in
-    subst (λ (z : SessionList). IsIn y z.events) (sym so)
-    (subst (λ (a : Action). IsIn y (l.events ++ (lost_of a upto (event.Reply x) ++ abort_of aborts))) (sym asks) tail)
+over_in spells history mid upto u b calls l m o y w so i =
+    subst (λ (z : SessionList). IsIn y z.events) (sym so) (in_over o w i)
+  where
+    last : Action
+    last = action_of action.Read calls
 
-pub over_at : (spells : List ℕ → Bool) (history : List Seen) (mid upto : ℕ) (u : State) (b : Action) (calls : List Call)
-    (l m : SessionList) (o : IsOver spells history mid upto u b) → IsListOver calls l o m → m.at ≡ l.at
-over_at spells history mid upto u b calls l m (Ended e is same) so = ap (λ (z : SessionList). z.at) so
-over_at spells history mid upto u b calls l m (Stopped came aborts at may going same) so =
-    stopped_at calls l m upto came aborts so
-over_at spells history mid upto u b calls l m (Untold q x aborts is comes answers going) so =
-    ap (λ (z : SessionList). z.at) so
+    none_in : (x : Over) → IsIn y (l.events ++ []) → IsIn y (l.events ++ tail_of last x)
+    none_in x i = in_either y l.events [] (tail_of last x) (λ k. absurd k) i
+
+    in_over : (o : IsOver spells history mid upto u b) → last ≡ b → IsIn y (l.events ++ told_over o)
+        → IsIn y (l.events ++ tail_of last (over_as o))
+    in_over (Ended e is same) w i = none_in (record { untold = None; seen = upto; aborts = false }) i
+    in_over (Stopped came aborts at may going same) w i =
+        none_in (record { untold = came; seen = upto; aborts = aborts }) i
+    in_over (Untold q x aborts is comes answers going) w i =
+        let told : List SessionEvent = told_as upto (step_told q x) (look_told q x) ∷ [] in
+        subst (λ (a : Action). IsIn y (l.events ++ (came_of a upto (event.Reply x) ++ abort_of aborts))) (sym (w ∙ is))
+        (in_either y l.events told (told ++ abort_of aborts) (before_in y told (abort_of aborts)) i)
 
 -- ---- its generation
 
@@ -137,16 +116,16 @@ piece_is g (Complete j k n piece) i = i
 piece_is g (Drop j k) i = i
 piece_is g step i = absurd i
 
-pub segments_are_good : ListsAreGood → ListsMayStop → SegmentsAreGood
-segments_are_good whole may_stop spells history before low from mid upto ss s t u b calls new over x l m size window
+pub segments_are_good : ListsAreGood → SegmentsAreGood
+segments_are_good whole spells history before low from mid upto ss s t u b calls new over x l m size window
     allow
     are one of_it list le led is_list at_is events_are so values =
-    sessions_good whole may_stop spells history from mid upto t u b calls x.lane l m size window allow new led over
+    sessions_good whole spells history from mid upto t u b calls x.lane l m size window allow new led over
     is_list
     so values owned
   where
     place : m.at ≡ x.at
-    place = over_at spells history mid upto u b calls l m over so ∙ sym at_is
+    place = ap (λ (z : SessionList). z.at) so ∙ sym at_is
 
     begun : BeginsIn history before s.own x
     begun = subst (λ (o : Option OnLane). Begins history before s.own o) list

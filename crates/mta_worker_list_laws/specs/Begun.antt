@@ -25,6 +25,7 @@ use Rattle.mta_session.specs.State.{State}
 use Rattle.mta_session_run.specs.Running.{HasDone, HasPut, IsUndone}
 use Rattle.mta_session_list_laws.specs.Calls.{Call, step_told}
 use Rattle.mta_session_list_laws.specs.Lists.{HasAt, step_by, step_for}
+use Rattle.mta_session_list_laws.specs.Over.{Over}
 use Rattle.mta_session_list_laws.specs.Standing.{ComesTrue}
 use Rattle.mta_shared.specs.Held.{Held}
 use Rattle.mta_worker.specs.Serving.{At}
@@ -62,6 +63,15 @@ pub data IsOver (spells : List ℕ → Bool) (history : List Seen) (from upto : 
   Untold : (q : Ask) (x : Reply) (aborts : Bool) → b ≡ action.Ask q
       → ComesTrue spells history from upto u.phase (action.Ask q) (event.Reply x) → Answers u (event.Reply x)
       → (aborts ≡ true → has_turned u.phase ≡ false) → IsOver spells history from upto u b
+
+-- what its list has behind its last call
+abbrev pub over_as : {spells : List ℕ → Bool} {history : List Seen} {from upto : ℕ} {u : State} {b : Action}
+    → IsOver spells history from upto u b → Over
+over_as {upto = upto} (Ended e is same) = record { untold = None; seen = upto; aborts = false }
+over_as {upto = upto} (Stopped came aborts at may going same) =
+    record { untold = came; seen = upto; aborts = aborts }
+over_as {upto = upto} (Untold q x aborts is comes answers going) =
+    record { untold = Some (event.Reply x); seen = upto; aborts = aborts }
 
 -- the entry that such a reply tells
 abbrev pub made_over : {spells : List ℕ → Bool} {history : List Seen} {from upto : ℕ} {u : State} {b : Action}

@@ -14,7 +14,7 @@ use Rattle.mta_session.specs.declared.event.Event.TheVariants as event
 use Rattle.mta_session_laws.specs.Whole.{AreCalls}
 use Rattle.mta_session_run.specs.Running.{PutFor, units_of}
 use Rattle.mta_session_list_laws.specs.Calls.{Call, StepOn, turns_of, action_of, step_told}
-use Rattle.mta_session_list_laws.specs.Lost.{seen_of}
+use Rattle.mta_session_list_laws.specs.Over.{seen_of}
 use Rattle.mta_session_list_laws.specs.Standing.{AllComeTrue}
 
 -- These calls lead a session from one thing that it wants to another, and the history has what they tell: it had one

@@ -15,7 +15,7 @@ ghost use Rattle.mta_worker_list_laws.specs.Untold.{UntoldAreTheirs};
 
 use mta_edge::{Clock, Disk};
 use mta_links::{Link, Station};
-use mta_session_list_laws::{lists_are_good, lists_may_stop};
+use mta_session_list_laws::lists_are_good;
 use mta_transfer_laws::sessions_agree;
 
 /// Reading tells which octets spell an APDU that may be received: a test for these laws.
@@ -40,7 +40,6 @@ pub fn sessions_are_good()
     ensures { SessionsAreGood }
 {
     lists_are_good();
-    lists_may_stop();
 }
 
 /// Where each step that sessions make on a lane was made for one session, and stands in its list, the list of a session
@@ -60,7 +59,6 @@ pub fn segments_are_good()
     ensures { SegmentsAreGood }
 {
     lists_are_good();
-    lists_may_stop();
 }
 
 /// What was done with a link is in parts of the history, one for the session and one for lanes that were closed before
@@ -113,7 +111,6 @@ pub fn all_are_good<D: Disk + Drop, C: Clock + Drop, L: Link, S: Station>()
     ensures { AllAreGood D.model C.model L.model S.model }
 {
     lists_are_good();
-    lists_may_stop();
 }
 
 /// Two ends of a lane agree, whatever the other end and the links did, where workers served the sessions of this
@@ -122,6 +119,5 @@ pub fn ends_agree<D: Disk + Drop, C: Clock + Drop, L: Link, S: Station>()
     ensures { EndsAgree D.model C.model L.model S.model }
 {
     lists_are_good();
-    lists_may_stop();
     sessions_agree();
 }

@@ -3,5 +3,5 @@ use Rattle.mta_lane_list_laws.proofs.laws.lanes_agree.Goals as goal
 
 pub returns : goal.returns
 returns g c =
-    lanes_agree c.lists_are_good.ensures c.lists_may_stop.ensures c.sessions_agree.ensures
+    lanes_agree c.lists_are_good.ensures c.sessions_agree.ensures
     c.one_station_agrees.ensures g.L.Link.model

@@ -3,5 +3,5 @@ use Rattle.mta_worker_list_laws.proofs.laws.all_are_good.Goals as goal
 
 pub returns : goal.returns
 returns g c =
-    all_are_good c.lists_are_good.ensures c.lists_may_stop.ensures g.D.Disk.model g.C.Clock.model g.L.Link.model
+    all_are_good c.lists_are_good.ensures g.D.Disk.model g.C.Clock.model g.L.Link.model
     g.S.Station.model

@@ -3,5 +3,5 @@ use Rattle.mta_worker_list_laws.proofs.laws.ends_agree.Goals as goal
 
 pub returns : goal.returns
 returns g c =
-    ends_agree c.lists_are_good.ensures c.lists_may_stop.ensures c.sessions_agree.ensures g.D.Disk.model
+    ends_agree c.lists_are_good.ensures c.sessions_agree.ensures g.D.Disk.model
     g.C.Clock.model g.L.Link.model g.S.Station.model

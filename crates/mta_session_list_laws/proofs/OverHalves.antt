@@ -1,4 +1,4 @@
--- The two halves of the list of a session that ends because memory is wanted.
+-- The two halves of the list of a session, where it is over: what came of its last action, and an Abort.
 use Rattle.std.proofs.Common.{◌≡◌, ◌⊎◌, inl, inr, ℕ, ◌≤◌, Bool, true, false, Option, Some, None}
 use Rattle.std.proofs.Common.{Ok, Err, List, [], ◌∷◌, ◌++◌, refl, sym, subst}
 use Rattle.mta_units.specs.declared.unit.Unit.TheVariants as unit
@@ -31,7 +31,7 @@ use Rattle.mta_transfer_laws.specs.Sessions.{SessionEvent, Got, Refused, Put, Ma
 use Rattle.mta_transfer_laws.specs.Sessions.{recv_all}
 use Rattle.mta_transfer_laws.specs.Sessions.{answer_unit, answers_of, send_all, SendOwesNothing, transfer_unit}
 use Rattle.mta_session_list_laws.specs.Calls.{StepOn, step_told, look_told, told_as}
-use Rattle.mta_session_list_laws.specs.Lost.{Lost, lost_of, abort_of}
+use Rattle.mta_session_list_laws.specs.Over.{abort_of, came_of, ComesLast, MayComeLast, Over, untold_of}
 use Rattle.mta_session_list_laws.specs.Standing.{StandsAs, ComesTrue}
 use Rattle.mta_session_list_laws.proofs.Waiting.{goes_with, ask_answers}
 use Rattle.mta_session_list_laws.proofs.Turns.{Holds}
@@ -96,64 +96,69 @@ abort_receives lane b false = tt
 
 module _ (l : Halves) (early : Type 0) (lane : ℕ) where
   -- a session before the call that wants memory
-  pub record LostRecv (a : Action) (u : State) (b c : RecvEnd) : Type 0 where
-    pub fits : Fits u
+  pub record LastRecv (a : Action) (u : State) (b c : RecvEnd) : Type 0 where
     pub waits : goes_with a u.phase ≡ true
     pub asked : Asked a u
     pub lane_is : is_last_phase u.phase ≡ false → u.lane ≡ lane
     pub put : r.IsReceivingEnd b (recv.pending a) c
     pub at : RecvAt early (first l early) u.phase u a c
 
-  reads_owes : (u : State) (b c : RecvEnd) → LostRecv action.Read u b c → Part u.phase → r.OwesNothing c
-  reads_owes u b c k (in_open i) =
+  reads_owes : (u : State) (b c : RecvEnd) → LastRecv action.Read u b c → Fits u → Part u.phase → r.OwesNothing c
+  reads_owes u b c k fits (in_open i) =
       let o = at_open early (first l early) u.phase u action.Read c i k.at in
       subst (λ z. r.OwesNothing z) (sym o.is)
-      (reads_owing u.phase u o.piece i (open_reads u.phase i k.waits) k.fits)
-  reads_owes u b c k (at_opening i) =
+      (reads_owing u.phase u o.piece i (open_reads u.phase i k.waits) fits)
+  reads_owes u b c k fits (at_opening i) =
       subst (λ z. r.OwesNothing z) (sym (opening_first early (first l early) u.phase u action.Read c i k.at)) tt
-  reads_owes u b c k (at_last i) = absurd (last_reads l early lane u.phase i k.waits)
-  reads_owes u b c k (at_none i) = absurd (none_here early (first l early) u.phase u action.Read c i k.at)
+  reads_owes u b c k fits (at_last i) = absurd (last_reads l early lane u.phase i k.waits)
+  reads_owes u b c k fits (at_none i) = absurd (none_here early (first l early) u.phase u action.Read c i k.at)
 
-  told_part : (q : Ask) (z : Reply) (seen : ℕ) (u : State) (b c : RecvEnd) → LostRecv (action.Ask q) u b c
+  told_part : (q : Ask) (z : Reply) (seen : ℕ) (u : State) (b c : RecvEnd) → LastRecv (action.Ask q) u b c → Fits u
       → Answers u (event.Reply z) → Part u.phase
       → recv.Allowed c (receiving_event lane (told_as seen (step_told q z) (look_told q z)))
-  told_part q z seen u b c k n (in_open i) =
+  told_part q z seen u b c k fits n (in_open i) =
       let o = at_open early (first l early) u.phase u (action.Ask q) c i k.at in
       let same = told_is lane seen u.phase u q z o.piece i k.asked
       (ask_answers u.phase u (event.Reply z) k.waits n) (k.lane_is (open_not_last u.phase i)) o.on in
       let goes : RecvGoes (whole u.phase u.recv o.piece) (told_by u.phase u o.piece (event.Reply z))
       (wanted_of_reply u.phase u z) =
       subst (λ w. RecvGoes (whole u.phase u.recv o.piece) (told_by u.phase u o.piece (event.Reply z)) w)
-      (in_phase_wanted u (event.Reply z)) (events_go u (event.Reply z) o.piece i k.fits n) in
+      (in_phase_wanted u (event.Reply z)) (events_go u (event.Reply z) o.piece i fits n) in
       subst (λ w. recv.Allowed c w) (sym same)
       (subst (λ w. recv.Allowed w (told_by u.phase u o.piece (event.Reply z))) (sym o.is)
       (told_allowed u.phase u o.piece z goes))
-  told_part q z seen u b c k n (at_opening i) =
+  told_part q z seen u b c k fits n (at_opening i) =
       subst (λ w. recv.Allowed c w)
       (sym (opening_quiet lane seen u.phase u q z i (ask_answers u.phase u (event.Reply z) k.waits n))) tt
-  told_part q z seen u b c k n (at_last i) =
+  told_part q z seen u b c k fits n (at_last i) =
       subst (λ w. recv.Allowed c w)
       (sym (end_quiet lane seen u.phase u q z i k.asked (ask_answers u.phase u (event.Reply z) k.waits n))) tt
-  told_part q z seen u b c k n (at_none i) =
+  told_part q z seen u b c k fits n (at_none i) =
       absurd (none_here early (first l early) u.phase u (action.Ask q) c i k.at)
 
-  pub tail_receives : (a : Action) (u : State) (y : Lost) (e : Event) (b c : RecvEnd) → LostRecv a u b c → Answers u e
-      → RecvKeeps lane b (lost_of a y.seen e ++ abort_of y.aborts)
-  tail_receives (action.Put w) u y e b c k n =
+  came_receives : (a : Action) (u : State) (y : Over) (e : Event) (b c : RecvEnd) → LastRecv a u b c → Fits u
+      → Answers u e → RecvKeeps lane b (came_of a y.seen e ++ abort_of y.aborts)
+  came_receives (action.Put w) u y e b c k fits n =
       (tt, (run_allowed b c (recv.pending (action.Put w)) k.put).0, abort_receives lane _ y.aborts)
-  tail_receives action.Read u y (event.Unit w) b c k n =
+  came_receives action.Read u y (event.Unit w) b c k fits n =
       let same : c ≡ b = k.put in
-      (subst (λ z. r.OwesNothing z) same (reads_owes u b c k (part u.phase)), tt, abort_receives lane b y.aborts)
-  tail_receives action.Read u y any3 b c k n = abort_receives lane b y.aborts
-  tail_receives (action.Ask q) u y (event.Reply z) b c k n =
+      (subst (λ z. r.OwesNothing z) same (reads_owes u b c k fits (part u.phase)), tt, abort_receives lane b y.aborts)
+  came_receives action.Read u y any3 b c k fits n = abort_receives lane b y.aborts
+  came_receives (action.Ask q) u y (event.Reply z) b c k fits n =
       let same : c ≡ b = k.put in (
         told_rests y.seen (step_told q z) (look_told q z) b,
         subst (λ w. recv.Allowed w (receiving_event lane (told_as y.seen (step_told q z) (look_told q z)))) same
-            (told_part q z y.seen u b c k n (part u.phase)),
+            (told_part q z y.seen u b c k fits n (part u.phase)),
         abort_receives lane _ y.aborts,
       )
-  tail_receives (action.Ask q) u y any3 b c k n = abort_receives lane b y.aborts
-  tail_receives (action.Finish z) u y e b c k n = abort_receives lane b y.aborts
+  came_receives (action.Ask q) u y any3 b c k fits n = abort_receives lane b y.aborts
+  came_receives (action.Finish z) u y e b c k fits n = abort_receives lane b y.aborts
+
+  pub tail_receives : (spells : List ℕ → Bool) (history : List Seen) (from : ℕ) (a : Action) (u : State) (y : Over)
+      (o : Option Event) (b c : RecvEnd) → LastRecv a u b c → MayComeLast spells history from a u y.seen o
+      → RecvKeeps lane b (untold_of a y.seen o ++ abort_of y.aborts)
+  tail_receives spells history from a u y None b c k last = abort_receives lane b y.aborts
+  tail_receives spells history from a u y (Some e) b c k last = came_receives a u y e b c k last.fits last.answers
 
 -- ---- the sending half
 
@@ -166,8 +171,7 @@ module _ (history : List Seen) (lane : ℕ) where
 module _ (g : EventsGo) (spells : List ℕ → Bool) (history : List Seen) (lane : ℕ) (allow : IsOfLanes spells history)
     (l : Halves) (size window : ℕ) (accepted : Bool) (low : ℕ) (early : Type 0) where
   -- a session before the call that wants memory
-  pub record LostSend (a : Action) (u : State) (b c : SendEnd) (behind from seen : ℕ) (v : x.Turn) : Type 0 where
-    pub fits : Fits u
+  pub record LastSend (a : Action) (u : State) (b c : SendEnd) (behind from seen : ℕ) (v : x.Turn) : Type 0 where
     pub waits : goes_with a u.phase ≡ true
     pub asked : Asked a u
     pub lane_is : is_last_phase u.phase ≡ false → u.lane ≡ lane
@@ -180,43 +184,43 @@ module _ (g : EventsGo) (spells : List ℕ → Bool) (history : List Seen) (lane
     pub soon : is_soon u.phase ≡ true → early → seen ≡ low
 
   send_rests : (u : State) (b c : SendEnd) (behind from seen : ℕ) (v : x.Turn)
-      → LostSend action.Read u b c behind from seen v → Part u.phase → SendOwesNothing v c
-  send_rests u b c behind from seen v k (in_open i) =
-      calls.open_owes g spells history lane allow l size window accepted low early early u.phase u v c i k.waits k.fits
+      → LastSend action.Read u b c behind from seen v → Fits u → Part u.phase → SendOwesNothing v c
+  send_rests u b c behind from seen v k fits (in_open i) =
+      calls.open_owes g spells history lane allow l size window accepted low early early u.phase u v c i k.waits fits
       k.holds
       (sending.at_open l size window accepted early u.phase u action.Read c i
       (calls.reads_no_state g spells history lane allow l size window accepted low early early u.phase k.waits) k.at)
-  send_rests u b c behind from seen v k (at_opening i) =
+  send_rests u b c behind from seen v k fits (at_opening i) =
       calls.opening_owes g spells history lane allow l size window accepted low early early u.phase u v c i k.waits
       k.holds k.at
-  send_rests u b c behind from seen v k (at_last i) = absurd (last_reads l early lane u.phase i k.waits)
-  send_rests u b c behind from seen v k (at_none i) =
+  send_rests u b c behind from seen v k fits (at_last i) = absurd (last_reads l early lane u.phase i k.waits)
+  send_rests u b c behind from seen v k fits (at_none i) =
       absurd (calls.none_here l size window accepted early u.phase u action.Read c i k.at)
 
-  pub tail_sends : (a : Action) (u : State) (y : Lost) (e : Event) (b c : SendEnd) (behind from : ℕ) (v : x.Turn)
-      → LostSend a u b c behind from y.seen v → Answers u e → ComesTrue spells history from y.seen u.phase a e
+  came_sends : (a : Action) (u : State) (y : Over) (e : Event) (b c : SendEnd) (behind from : ℕ) (v : x.Turn)
+      → LastSend a u b c behind from y.seen v → Fits u → Answers u e → ComesTrue spells history from y.seen u.phase a e
       → SendTells l size window accepted u.phase u e
-      → SendKeeps lane v b (With history lane behind b (lost_of a y.seen e ++ abort_of y.aborts))
-  tail_sends (action.Put w) u y e b c behind from v k n is tells =
+      → SendKeeps lane v b (With history lane behind b (came_of a y.seen e ++ abort_of y.aborts))
+  came_sends (action.Put w) u y e b c behind from v k fits n is tells =
       silent_keeps history lane v behind b (Put w) (abort_of y.aborts) refl refl tt
       (send.run_allowed b c (send.pending (action.Put w)) k.put).0 (abort_sends history lane _ behind _ y.aborts)
-  tail_sends action.Read u y (event.Unit w) b c behind from v k n is tells =
+  came_sends action.Read u y (event.Unit w) b c behind from v k fits n is tells =
       let same : c ≡ b = k.put in
       silent_keeps history lane v behind b (Refused w) (abort_of y.aborts) refl refl
-      (subst (λ z. SendOwesNothing v z) same (send_rests u b c behind from y.seen v k (part u.phase))) tt
+      (subst (λ z. SendOwesNothing v z) same (send_rests u b c behind from y.seen v k fits (part u.phase))) tt
       (abort_sends history lane v behind b y.aborts)
-  tail_sends action.Read u y event.BadUnit b c behind from v k n is tells =
+  came_sends action.Read u y event.BadUnit b c behind from v k fits n is tells =
       abort_sends history lane v behind b y.aborts
-  tail_sends action.Read u y (event.Reply z) b c behind from v k n is tells =
+  came_sends action.Read u y (event.Reply z) b c behind from v k fits n is tells =
       abort_sends history lane v behind b y.aborts
-  tail_sends action.Read u y any3 b c behind from v k n is tells = abort_sends history lane v behind b y.aborts
-  tail_sends (action.Ask q) u y (event.Reply z) b c behind from v k n is tells =
+  came_sends action.Read u y any3 b c behind from v k fits n is tells = abort_sends history lane v behind b y.aborts
+  came_sends (action.Ask q) u y (event.Reply z) b c behind from v k fits n is tells =
       let same : c ≡ b = k.put in
       asked_keeps spells history lane allow l size window accepted low early early (λ w. Unit {0}) u behind from y.seen
       b
       v (abort_of y.aborts) (λ mid to after yet lo up. abort_sends history lane v to mid y.aborts) q z
       (record {
-        fits = k.fits;
+        fits = fits;
         answers = n;
         waits = k.waits;
         asked = k.asked;
@@ -233,12 +237,21 @@ module _ (g : EventsGo) (spells : List ℕ → Bool) (history : List Seen) (lane
         waits_after = λ i mid waits. tt;
         last_after = λ i mid. tt;
       })
-  tail_sends (action.Ask q) u y event.BadUnit b c behind from v k n is tells =
+  came_sends (action.Ask q) u y event.BadUnit b c behind from v k fits n is tells =
       abort_sends history lane v behind b y.aborts
-  tail_sends (action.Ask q) u y (event.Unit w) b c behind from v k n is tells =
+  came_sends (action.Ask q) u y (event.Unit w) b c behind from v k fits n is tells =
       abort_sends history lane v behind b y.aborts
-  tail_sends (action.Ask q) u y any3 b c behind from v k n is tells = abort_sends history lane v behind b y.aborts
-  tail_sends (action.Finish z) u y e b c behind from v k n is tells = abort_sends history lane v behind b y.aborts
+  came_sends (action.Ask q) u y any3 b c behind from v k fits n is tells = abort_sends history lane v behind b y.aborts
+  came_sends (action.Finish z) u y e b c behind from v k fits n is tells = abort_sends history lane v behind b y.aborts
+
+  pub tail_sends : (a : Action) (u : State) (y : Over) (o : Option Event) (b c : SendEnd) (behind from : ℕ) (v : x.Turn)
+      → MayComeLast spells history from a u y.seen o
+      → ((e : Event) → ComesLast spells history from a u y.seen e
+      → LastSend a u b c behind from y.seen v × SendTells l size window accepted u.phase u e)
+      → SendKeeps lane v b (With history lane behind b (untold_of a y.seen o ++ abort_of y.aborts))
+  tail_sends a u y None b c behind from v last here = abort_sends history lane v behind b y.aborts
+  tail_sends a u y (Some e) b c behind from v last here =
+      let k = here e last in came_sends a u y e b c behind from v k.0 last.fits last.answers last.stands k.1
 
 -- ---- what is found
 
@@ -256,8 +269,8 @@ module _ (spells : List ℕ → Bool) (history : List Seen) (lane : ℕ) (allow 
   abort_behind n false = λ q j step k. absurd k
 
   module _ (l : Halves) (early : Type 0) where
-    told_finds : (q : Ask) (z : Reply) (u : State) (y : Lost) (b c : RecvEnd) (pieces : List (List ℕ)) (n from : ℕ)
-        → LostRecv l early lane (action.Ask q) u b c → (is_last_phase u.phase ≡ false → u.generation ≡ gen)
+    told_finds : (q : Ask) (z : Reply) (u : State) (y : Over) (b c : RecvEnd) (pieces : List (List ℕ)) (n from : ℕ)
+        → LastRecv l early lane (action.Ask q) u b c → (is_last_phase u.phase ≡ false → u.generation ≡ gen)
         → Answers u (event.Reply z) → StandsAs spells history from y.seen q z (step_told q z)
         → (is_last_phase u.phase ≡ false → FoundSo spells history lane allow gen from pieces n
         (told_as y.seen (step_told q z) (look_told q z) ∷ abort_of y.aborts))
@@ -277,19 +290,29 @@ module _ (spells : List ℕ → Bool) (history : List Seen) (lane : ℕ) (allow 
         (ask_answers u.phase u (event.Reply z) k.waits ans) (k.lane_is i) (gens i)
         (subst (λ w. RecvAt early (first l early) u.phase u (action.Ask q) w) same k.at)
 
-    pub tail_finds : (a : Action) (u : State) (y : Lost) (e : Event) (b c : RecvEnd) (pieces : List (List ℕ)) (n from :
+    came_finds : (a : Action) (u : State) (y : Over) (e : Event) (b c : RecvEnd) (pieces : List (List ℕ)) (n from :
         ℕ)
-        → LostRecv l early lane a u b c → (is_last_phase u.phase ≡ false → u.generation ≡ gen) → Answers u e
+        → LastRecv l early lane a u b c → (is_last_phase u.phase ≡ false → u.generation ≡ gen) → Answers u e
         → ComesTrue spells history from y.seen u.phase a e
         → (is_last_phase u.phase ≡ false
-        → FoundSo spells history lane allow gen from pieces n (lost_of a y.seen e ++ abort_of y.aborts))
-        → FindKeeps spells lane b pieces (lost_of a y.seen e ++ abort_of y.aborts)
-    tail_finds (action.Put w) u y e b c pieces n from k gens ans is found =
+        → FoundSo spells history lane allow gen from pieces n (came_of a y.seen e ++ abort_of y.aborts))
+        → FindKeeps spells lane b pieces (came_of a y.seen e ++ abort_of y.aborts)
+    came_finds (action.Put w) u y e b c pieces n from k gens ans is found =
         ((put_true spells b pieces (answer_unit w)).0, abort_finds _ _ y.aborts)
-    tail_finds action.Read u y (event.Unit w) b c pieces n from k gens ans is found =
+    came_finds action.Read u y (event.Unit w) b c pieces n from k gens ans is found =
         (tt, abort_finds b pieces y.aborts)
-    tail_finds action.Read u y any3 b c pieces n from k gens ans is found = abort_finds b pieces y.aborts
-    tail_finds (action.Ask q) u y (event.Reply z) b c pieces n from k gens ans is found =
+    came_finds action.Read u y any3 b c pieces n from k gens ans is found = abort_finds b pieces y.aborts
+    came_finds (action.Ask q) u y (event.Reply z) b c pieces n from k gens ans is found =
         told_finds q z u y b c pieces n from k gens ans is.1 found (is_last_phase u.phase) refl
-    tail_finds (action.Ask q) u y any3 b c pieces n from k gens ans is found = abort_finds b pieces y.aborts
-    tail_finds (action.Finish z) u y e b c pieces n from k gens ans is found = abort_finds b pieces y.aborts
+    came_finds (action.Ask q) u y any3 b c pieces n from k gens ans is found = abort_finds b pieces y.aborts
+    came_finds (action.Finish z) u y e b c pieces n from k gens ans is found = abort_finds b pieces y.aborts
+
+    pub tail_finds : (a : Action) (u : State) (y : Over) (o : Option Event) (b c : RecvEnd) (pieces : List (List ℕ))
+        (n from : ℕ) → LastRecv l early lane a u b c → (is_last_phase u.phase ≡ false → u.generation ≡ gen)
+        → MayComeLast spells history from a u y.seen o
+        → (is_last_phase u.phase ≡ false
+        → FoundSo spells history lane allow gen from pieces n (untold_of a y.seen o ++ abort_of y.aborts))
+        → FindKeeps spells lane b pieces (untold_of a y.seen o ++ abort_of y.aborts)
+    tail_finds a u y None b c pieces n from k gens last found = abort_finds b pieces y.aborts
+    tail_finds a u y (Some e) b c pieces n from k gens last found =
+        came_finds a u y e b c pieces n from k gens last.answers last.stands found

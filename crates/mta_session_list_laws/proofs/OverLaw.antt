@@ -1,5 +1,6 @@
--- The list of a session that ends because memory is wanted is a good one.
-use Rattle.std.proofs.Common.{◌≡◌, inr, ℕ, ◌+◌, ◌≤◌, not, Bool, true, false, List, [], ◌∷◌, ◌++◌, take, refl, sym, ap}
+-- The list of a session is a good one, however the session is over.
+use Rattle.std.proofs.Common.{◌≡◌, inr, ℕ, ◌+◌, ◌≤◌, not, Bool, true, false, Option, None, Some, List, [], ◌∷◌, ◌++◌}
+use Rattle.std.proofs.Common.{take, refl, sym, ap}
 use Rattle.std.proofs.Common.{subst}
 use Rattle.std.proofs.Common.{◌∙◌, arith, append_assoc}
 use Rattle.std.proofs.lemmas.Option.{slice_get_within}
@@ -31,10 +32,10 @@ use Rattle.mta_transfer_laws.specs.Sessions.{sending_events, receiving_events}
 use Rattle.mta_session_list_laws.specs.Calls.{Call, StepOn, turns_of, step_told, look_told, list_of, event_of}
 use Rattle.mta_session_list_laws.specs.Calls.{action_of}
 use Rattle.mta_session_list_laws.specs.Abandons.{with_abandons}
-use Rattle.mta_session_list_laws.specs.Laws.{OwnsPieces, ListsMayStop}
+use Rattle.mta_session_list_laws.specs.Laws.{ListsAreGood, OwnsPieces}
 use Rattle.mta_session_list_laws.specs.Lists.{HasAt, step_for, step_by, Initiates, Responds, end_begun, completed}
 use Rattle.mta_session_list_laws.specs.Lists.{AreValues}
-use Rattle.mta_session_list_laws.specs.Lost.{Lost, lost_of, abort_of, tail_of, seen_of, IsLost}
+use Rattle.mta_session_list_laws.specs.Over.{abort_of, came_of, EndsAs, MayComeLast, Over, seen_of, tail_of, untold_of}
 use Rattle.mta_session_list_laws.specs.Standing.{ComesTrue, AllComeTrue}
 use Rattle.mta_session_list_laws.proofs.Insertion as insertion
 use Rattle.mta_session_list_laws.proofs.Waiting.{Ready, ready_next, does_at}
@@ -60,9 +61,9 @@ use Rattle.mta_session_list_laws.proofs.FindingCalls.{FindKeeps, FoundSo, Behind
 use Rattle.mta_session_list_laws.proofs.FindingCalls.{come_behind}
 use Rattle.mta_session_list_laws.proofs.FindingLaw as finding
 use Rattle.mta_session_list_laws.proofs.FindingLaw.{come_finds, gen_next}
-use Rattle.mta_session_list_laws.proofs.LostLists.{lost_rises, lost_stands, lost_turns, lost_refuses}
-use Rattle.mta_session_list_laws.proofs.Rising.{lost_never_falls, never_with}
-use Rattle.mta_session_list_laws.proofs.LostHalves.{tail_receives, tail_sends, abort_behind, tail_finds}
+use Rattle.mta_session_list_laws.proofs.OverLists.{calls_refuse, calls_rise, calls_stand, calls_turn}
+use Rattle.mta_session_list_laws.proofs.Rising.{calls_never_fall, never_with}
+use Rattle.mta_session_list_laws.proofs.OverHalves.{tail_receives, tail_sends, abort_behind, tail_finds}
 
 -- ---- the receiving half, call by call
 
@@ -81,16 +82,16 @@ module _ (spells : List ℕ → Bool) (history : List Seen) (lane at : ℕ) wher
       not_so : false ≡ true → ⊥
       not_so e = cc
 
-  pub lost_receives : (cs : List Call) (a : Action) (t u : State) (b c : RecvEnd) (from : ℕ) (y : Lost) → Ready a t
+  pub calls_receive : (cs : List Call) (a : Action) (t u : State) (b c : RecvEnd) (from : ℕ) (y : Over) → Ready a t
       → Asked a t → (is_last_phase t.phase ≡ false → t.lane ≡ lane) → r.IsReceivingEnd b (recv.pending a) c
       → RecvAt (from ≡ at + 1) (first half (from ≡ at + 1)) t.phase t a c → AllComeTrue spells history from a cs
-      → AreCalls t (turns_of cs) u → IsLost spells history (seen_of from cs) (action_of a cs) u y
+      → AreCalls t (turns_of cs) u → EndsAs spells history (seen_of from cs) (action_of a cs) u y
       → RecvKeeps lane b (list_of a cs ++ tail_of (action_of a cs) y)
-  lost_receives [] a t u b c from y k asked f put here is run lost =
-      let fits = subst (λ z. IsLost spells history from a z y) run lost in
-      tail_receives half (from ≡ at + 1) lane a t y y.event b c
-      (record { fits = fits.fits; waits = k.waits; asked = asked; lane_is = f; put = put; at = here }) fits.answers
-  lost_receives (d ∷ ds) a t u b c from y k asked f put here is run lost =
+  calls_receive [] a t u b c from y k asked f put here is run ends =
+      tail_receives half (from ≡ at + 1) lane spells history from a t y y.untold b c
+      (record { waits = k.waits; asked = asked; lane_is = f; put = put; at = here })
+      (subst (λ z. EndsAs spells history from a z y) run ends).came
+  calls_receive (d ∷ ds) a t u b c from y k asked f put here is run ends =
       let tail : List SessionEvent = tail_of (action_of d.turn.action ds) y in
       let ready : Ready a d.turn.before = subst (Ready a) (sym run.0) k in
       let asks : Asked a d.turn.before = subst (Asked a) (sym run.0) asked in
@@ -109,11 +110,11 @@ module _ (spells : List ℕ → Bool) (history : List Seen) (lane at : ℕ) wher
       keeps
       (λ i. next i (early_here d.turn.before.phase d.turn.before a c from i stands)) is.0)
       next
-      (λ e more. lost_receives ds d.turn.action d.turn.after u e more.ended d.seen y (ready_next d.turn run.1 ready.due)
+      (λ e more. calls_receive ds d.turn.action d.turn.after u e more.ended d.seen y (ready_next d.turn run.1 ready.due)
       (asked_next d.turn.action d.turn.before d.turn.event d.turn.after run.1.follows)
       (all.lane_next (from ≡ at + 1) (first half (from ≡ at + 1)) c a lane d.turn run.1 stands keeps
       (part d.turn.before.phase))
-      more.run more.at is.1 run.2 lost))
+      more.run more.at is.1 run.2 ends))
 
 -- ---- the sending half
 
@@ -134,35 +135,35 @@ module _ (g : EventsGo) (spells : List ℕ → Bool) (history : List Seen) (lane
       not_so : false ≡ true → ⊥
       not_so e = cc
 
-  pub lost_sends : (cs : List Call) (a : Action) (t u : State) (b c : SendEnd) (behind from : ℕ) (v : x.Turn) (y : Lost)
+  pub calls_send : (cs : List Call) (a : Action) (t u : State) (b c : SendEnd) (behind from : ℕ) (v : x.Turn) (y : Over)
       → Ready a t → Asked a t → (is_last_phase t.phase ≡ false → t.lane ≡ lane) → s.IsSendingEnd b (send.pending a) c
       → SendAt whole_half size window accepted (from ≡ low) t.phase t a c → PutAllowed a v
       → Holds t.phase t (turned a v) → NotYet spells history lane allow behind b → low ≤ behind → behind ≤ from
       → AllComeTrue spells history from a cs → AreCalls t (turns_of cs) u
-      → IsLost spells history (seen_of from cs) (action_of a cs) u y
+      → EndsAs spells history (seen_of from cs) (action_of a cs) u y
       → SendKeeps lane v b (With history lane behind b (list_of a cs ++ tail_of (action_of a cs) y))
-  lost_sends [] a t u b c behind from v y k asked f put here allowed holds yet lo up is run lost =
-      let last = subst (λ z. IsLost spells history from a z y) run lost in
+  calls_send [] a t u b c behind from v y k asked f put here allowed holds yet lo up is run ends =
+      tail_sends g spells history lane allow whole_half size window accepted low (from ≡ low) a t y y.untold b c behind
+      from v (subst (λ z. EndsAs spells history from a z y) run ends).came
+      (λ e last.
       let now : is_soon t.phase ≡ true → from ≡ low → y.seen ≡ low =
-      λ i e. law.in_turn spells history t.phase a y.event from y.seen last.stands k.waits i ∙ e in
-      tail_sends g spells history lane allow whole_half size window accepted low (from ≡ low) a t y y.event b c behind
-      from v
-      (record {
-        fits = last.fits;
-        waits = k.waits;
-        asked = asked;
-        lane_is = f;
-        holds = holds;
-        put = put;
-        at = here;
-        begun = lo;
-        upto = up;
-        yet = yet;
-        soon = now;
-      }) last.answers last.stands
-      (law.on_event spells history lane allow size window values accepted low t.phase t a y.event from y.seen asked refl
-      k.waits last.stands f (λ i. now i (soon_here t.phase t a c from i here)))
-  lost_sends (d ∷ ds) a t u b c behind from v y k asked f put here allowed holds yet lo up is run lost =
+      λ i n. law.in_turn spells history t.phase a e from y.seen last.stands k.waits i ∙ n in (
+        record {
+          waits = k.waits;
+          asked = asked;
+          lane_is = f;
+          holds = holds;
+          put = put;
+          at = here;
+          begun = lo;
+          upto = up;
+          yet = yet;
+          soon = now;
+        },
+        law.on_event spells history lane allow size window values accepted low t.phase t a e from y.seen asked refl
+            k.waits last.stands f (λ i. now i (soon_here t.phase t a c from i here)),
+      ))
+  calls_send (d ∷ ds) a t u b c behind from v y k asked f put here allowed holds yet lo up is run ends =
       let tail : List SessionEvent = tail_of (action_of d.turn.action ds) y in
       let ready : Ready a d.turn.before = subst (Ready a) (sym run.0) k in
       let asks : Asked a d.turn.before = subst (Asked a) (sym run.0) asked in
@@ -193,12 +194,12 @@ module _ (g : EventsGo) (spells : List ℕ → Bool) (history : List Seen) (lane
       (law.on_event spells history lane allow size window values accepted low d.turn.before.phase d.turn.before a
       d.turn.event from d.seen asks refl ready.waits is.0 keeps
       (λ i. next i (soon_here d.turn.before.phase d.turn.before a c from i stands)))
-      (λ z e to done after yet_ down above. lost_sends ds d.turn.action d.turn.after u e after.ended to d.seen z y
+      (λ z e to done after yet_ down above. calls_send ds d.turn.action d.turn.after u e after.ended to d.seen z y
       (ready_next d.turn run.1 ready.due)
       (asked_next d.turn.action d.turn.before d.turn.event d.turn.after run.1.follows)
       (law.lane_next g spells history lane allow size window values accepted low (from ≡ low) c a d.turn run.1 stands
       keeps (part d.turn.before.phase))
-      after.run after.at done.allowed done.holds yet_ down above is.1 run.2 lost))
+      after.run after.at done.allowed done.holds yet_ down above is.1 run.2 ends))
 
 -- ---- what is found
 
@@ -214,42 +215,48 @@ module _ (spells : List ℕ → Bool) (history : List Seen) (lane : ℕ) (allow 
       (come_behind spells history lane allow gen from c.seen c.turn.before.phase a c.turn c.turn.event
       (list_of c.turn.action cs ++ tail) is.0 (behind_then cs c.seen c.turn.action tail is.1 low))
 
-  tail_behind : (from : ℕ) (p : Phase) (a : Action) (y : Lost) (e : Event) → ComesTrue spells history from y.seen p a e
-      → Behind spells history lane allow gen from (lost_of a y.seen e ++ abort_of y.aborts)
-  tail_behind from p (action.Put w) y e is =
-      behind_other spells history lane allow gen from from (Put w) (abort_of y.aborts) (omega arith) (λ q j step k. cc)
-      (abort_behind spells history lane allow gen from y.aborts)
-  tail_behind from p action.Read y (event.Unit w) is =
-      behind_other spells history lane allow gen from from (Refused w) (abort_of y.aborts) (omega arith)
-      (λ q j step k. cc) (abort_behind spells history lane allow gen from y.aborts)
-  tail_behind from p action.Read y any4 is = abort_behind spells history lane allow gen from y.aborts
-  tail_behind from p (action.Ask q) y (event.Reply z) is =
-      told_behind spells history lane allow gen from y.seen q z (step_told q z) (look_told q z) (abort_of y.aborts) is.1
-      (abort_behind spells history lane allow gen y.seen y.aborts)
-  tail_behind from p (action.Ask q) y any4 is = abort_behind spells history lane allow gen from y.aborts
-  tail_behind from p (action.Finish z) y e is = abort_behind spells history lane allow gen from y.aborts
+  came_behind : (from seen : ℕ) (p : Phase) (aborts : Bool) (a : Action) (e : Event)
+      → ComesTrue spells history from seen p a e
+      → Behind spells history lane allow gen from (came_of a seen e ++ abort_of aborts)
+  came_behind from seen p aborts (action.Put w) e is =
+      behind_other spells history lane allow gen from from (Put w) (abort_of aborts) (omega arith) (λ q j step k. cc)
+      (abort_behind spells history lane allow gen from aborts)
+  came_behind from seen p aborts action.Read (event.Unit w) is =
+      behind_other spells history lane allow gen from from (Refused w) (abort_of aborts) (omega arith)
+      (λ q j step k. cc) (abort_behind spells history lane allow gen from aborts)
+  came_behind from seen p aborts action.Read any5 is = abort_behind spells history lane allow gen from aborts
+  came_behind from seen p aborts (action.Ask q) (event.Reply z) is =
+      told_behind spells history lane allow gen from seen q z (step_told q z) (look_told q z) (abort_of aborts) is.1
+      (abort_behind spells history lane allow gen seen aborts)
+  came_behind from seen p aborts (action.Ask q) any5 is = abort_behind spells history lane allow gen from aborts
+  came_behind from seen p aborts (action.Finish z) e is = abort_behind spells history lane allow gen from aborts
+
+  tail_behind : (from seen : ℕ) (u : State) (aborts : Bool) (a : Action) (o : Option Event)
+      → MayComeLast spells history from a u seen o
+      → Behind spells history lane allow gen from (untold_of a seen o ++ abort_of aborts)
+  tail_behind from seen u aborts a None last = abort_behind spells history lane allow gen from aborts
+  tail_behind from seen u aborts a (Some e) last = came_behind from seen u.phase aborts a e last.stands
 
 module _ (spells : List ℕ → Bool) (history : List Seen) (lane : ℕ) (allow : IsOfLanes spells history) (gen at : ℕ)
   where
     abbrev half_at : Halves
     half_at = lane_in lane (take (at + 1) history)
 
-    pub lost_finds : (cs : List Call) (a : Action) (t u : State) (b c : RecvEnd) (pieces : List (List ℕ)) (n from : ℕ)
-        (y : Lost) → Ready a t → Asked a t → (is_last_phase t.phase ≡ false → t.lane ≡ lane)
+    pub calls_find : (cs : List Call) (a : Action) (t u : State) (b c : RecvEnd) (pieces : List (List ℕ)) (n from : ℕ)
+        (y : Over) → Ready a t → Asked a t → (is_last_phase t.phase ≡ false → t.lane ≡ lane)
         → (is_last_phase t.phase ≡ false → t.generation ≡ gen) → r.IsReceivingEnd b (recv.pending a) c
         → RecvAt (from ≡ at + 1) (first half_at (from ≡ at + 1)) t.phase t a c
         → (is_last_phase t.phase ≡ false
         → FoundSo spells history lane allow gen from pieces n (list_of a cs ++ tail_of (action_of a cs) y))
         → AllComeTrue spells history from a cs → AreCalls t (turns_of cs) u
-        → IsLost spells history (seen_of from cs) (action_of a cs) u y
+        → EndsAs spells history (seen_of from cs) (action_of a cs) u y
         → Behind spells history lane allow gen (seen_of from cs) (tail_of (action_of a cs) y)
         → FindKeeps spells lane b pieces (list_of a cs ++ tail_of (action_of a cs) y)
-    lost_finds [] a t u b c pieces n from y k asked f d put here found is run lost low =
-        let last = subst (λ z. IsLost spells history from a z y) run lost in
-        tail_finds spells history lane allow gen half_at (from ≡ at + 1) a t y y.event b c pieces n from
-        (record { fits = last.fits; waits = k.waits; asked = asked; lane_is = f; put = put; at = here }) d last.answers
-        last.stands found
-    lost_finds (w ∷ ws) a t u b c pieces n from y k asked f d put here found is run lost low =
+    calls_find [] a t u b c pieces n from y k asked f d put here found is run ends low =
+        tail_finds spells history lane allow gen half_at (from ≡ at + 1) a t y y.untold b c pieces n from
+        (record { waits = k.waits; asked = asked; lane_is = f; put = put; at = here }) d
+        (subst (λ z. EndsAs spells history from a z y) run ends).came found
+    calls_find (w ∷ ws) a t u b c pieces n from y k asked f d put here found is run ends low =
         let tail : List SessionEvent = tail_of (action_of w.turn.action ws) y in
         let ready : Ready a w.turn.before = subst (Ready a) (sym run.0) k in
         let asks : Asked a w.turn.before = subst (Asked a) (sym run.0) asked in
@@ -282,21 +289,21 @@ module _ (spells : List ℕ → Bool) (history : List Seen) (lane : ℕ) (allow 
         keeps (λ i. next i (early_here spells history lane at w.turn.before.phase w.turn.before a c from i stands))
         is.0)
         is.0 so
-        (λ e many m after left. lost_finds ws w.turn.action w.turn.after u e after.ended many m w.seen y
+        (λ e many m after left. calls_find ws w.turn.action w.turn.after u e after.ended many m w.seen y
         (ready_next w.turn run.1 ready.due)
         (asked_next w.turn.action w.turn.before w.turn.event w.turn.after run.1.follows)
         (all.lane_next (from ≡ at + 1) (first half_at (from ≡ at + 1)) c a lane w.turn run.1 stands keeps
         (part w.turn.before.phase))
         (gen_next (from ≡ at + 1) (first half_at (from ≡ at + 1)) c a gen w.turn run.1 stands gens
         (part w.turn.before.phase))
-        after.run after.at left is.1 run.2 lost low)
+        after.run after.at left is.1 run.2 ends low)
         (behind_then spells history lane allow gen ws w.seen w.turn.action tail is.1 low))
 
 -- ---- all of it
 
 good_at : (g : EventsGo) (spells : List ℕ → Bool) (history : List Seen) (allow : IsOfLanes spells history)
     (lane size window at : ℕ) (values : AreValues history lane size window) (initiator : Bool) (a : Action)
-    (cs : List Call) (t u : State) (step : StepOn) (b : SendEnd) (c : RecvEnd) (y : Lost) (opening : List SessionEvent)
+    (cs : List Call) (t u : State) (step : StepOn) (b : SendEnd) (c : RecvEnd) (y : Over) (opening : List SessionEvent)
     → HasAt history at step → ((lane_in lane (take (at + 1) history)).phase ≡ Unopened → ⊥)
     → t.generation ≡ (lane_in lane (take (at + 1) history)).generation
     → OwnsPieces history lane (completed history lane size window initiator
@@ -309,25 +316,25 @@ good_at : (g : EventsGo) (spells : List ℕ → Bool) (history : List Seen) (all
     → PutAllowed a x.Before_accept → Holds t.phase t (turned a x.Before_accept)
     → NotYet spells history lane allow (at + 1) (end_begun history lane size window at initiator)
     → AllComeTrue spells history (at + 1) a cs → AreCalls t (turns_of cs) u
-    → IsLost spells history (seen_of (at + 1) cs) (action_of a cs) u y
+    → EndsAs spells history (seen_of (at + 1) cs) (action_of a cs) u y
     → IsGoodSession spells history lane size window initiator (completed history lane size window initiator
     (record { opening = opening; at = at; events = list_of a cs ++ tail_of (action_of a cs) y }))
 good_at g spells history allow lane size window at values initiator a cs t u step b c y opening is open_ gen owns ready
-    asked keeps sent sends_at got gets_at allowed holds yet true_ run lost =
+    asked keeps sent sends_at got gets_at allowed holds yet true_ run ends =
     let l : Halves = lane_in lane (take (at + 1) history) in
     let e : SendEnd = end_begun history lane size window at initiator in
     let f : RecvEnd = end_on_link l in
     let ys : List SessionEvent = list_of a cs ++ tail_of (action_of a cs) y in
     let ws : List SessionEvent = with_abandons history lane (at + 1) e ys in
-    let rises = lost_rises spells history lane cs (at + 1) (at + 1) a u.phase y (omega arith) true_ lost.stands in
+    let rises = calls_rise spells history lane cs (at + 1) (at + 1) a u y (omega arith) true_ ends.came in
     let sends : SendKeeps lane x.Before_accept e ws =
-    lost_sends g spells history lane allow size window values (not initiator) (at + 1) cs a t u e b (at + 1) (at + 1)
-    x.Before_accept y ready asked keeps sent sends_at allowed holds yet (omega arith) (omega arith) true_ run lost in
+    calls_send g spells history lane allow size window values (not initiator) (at + 1) cs a t u e b (at + 1) (at + 1)
+    x.Before_accept y ready asked keeps sent sends_at allowed holds yet (omega arith) (omega arith) true_ run ends in
     let gets : RecvKeeps lane f ys =
-    lost_receives spells history lane at cs a t u f c (at + 1) y ready asked keeps got gets_at true_ run lost in
+    calls_receive spells history lane at cs a t u f c (at + 1) y ready asked keeps got gets_at true_ run ends in
     let with_gets : RecvKeeps lane f ws = received.keeps_with history lane ys (at + 1) e f gets in
     let found : FindKeeps spells lane f l.pieces ys =
-    lost_finds spells history lane allow l.generation at cs a t u f c l.pieces (at + 1) (at + 1) y ready asked keeps
+    calls_find spells history lane allow l.generation at cs a t u f c l.pieces (at + 1) (at + 1) y ready asked keeps
     (λ i. gen) got gets_at
     (λ i. record {
       before = omega arith;
@@ -336,15 +343,15 @@ good_at g spells history allow lane size window at values initiator a cs t u ste
       owned = λ q st down there piece. finding.in_without history lane l.generation ys (at + 1) e q st piece
           (owns q st (omega (arith, down)) there piece);
     })
-    true_ run lost
-    (tail_behind spells history lane allow l.generation (seen_of (at + 1) cs) u.phase (action_of a cs) y y.event
-    lost.stands) in
+    true_ run ends
+    (tail_behind spells history lane allow l.generation (seen_of (at + 1) cs) y.seen u y.aborts (action_of a cs)
+    y.untold ends.came) in
     record {
       begun = slice_get_within history at _ is;
       stands = insertion.stand history lane ys (at + 1) e rises
-          (lost_stands spells history lane cs (at + 1) a u.phase y true_ lost.stands);
+          (calls_stand spells history lane cs (at + 1) a u y true_ ends.came);
       never_fall = never_with history lane ys (at + 1) (at + 1) e
-          (lost_never_falls spells history cs (at + 1) (at + 1) a u.phase y (omega arith) true_ lost.stands);
+          (calls_never_fall spells history cs (at + 1) (at + 1) a u y (omega arith) true_ ends.came);
       sending = record {
         plain = law.all_plain lane ws;
         last_end = send_all e (sending_events lane ws);
@@ -358,10 +365,10 @@ good_at g spells history allow lane size window at values initiator a cs t u ste
             (finding.keeps_true spells lane f l.pieces ys found);
       };
       turn = insertion.turns history lane ys (at + 1) e x.Before_accept
-          (lost_turns cs a t u x.Before_accept y ready allowed holds run lost.going);
+          (calls_turn cs a t u x.Before_accept y ready allowed holds run ends.going);
       rests = finding.rests lane x.Before_accept e f ws (law.keeps_owes lane x.Before_accept e ws sends)
           (received.keeps_owes lane f ws with_gets);
-      refuses = insertion.refusals history lane ys (at + 1) e (lost_refuses cs a t u y ready run lost.going);
+      refuses = insertion.refusals history lane ys (at + 1) e (calls_refuse cs a t u y ready run ends.going);
       placed = insertion.places history lane ys (at + 1) e rises;
     }
 
@@ -375,9 +382,9 @@ last_seen : (before cs : List Call) (c : Call) (n : ℕ) → seen_of n (before +
 last_seen [] cs c n = refl
 last_seen (d ∷ ds) cs c n = last_seen ds cs c d.seen
 
-pub lists_stop : EventsGo → ListsMayStop
-lists_stop g spells history one_ u calls lane size window l y allow (Initiates p units at cs is true_) values opens owns
-    run lost =
+pub lists_good : EventsGo → ListsAreGood
+lists_good g spells history one_ u calls lane size window l y allow (Initiates p units at cs is true_) values opens owns
+    run ends =
     let begun = finding.planned_so spells history at allow p is opens in
     good_at g spells history allow p.lane size window at values true action.Read cs (new_initiator p units) u (step_for
     p)
@@ -386,9 +393,9 @@ lists_stop g spells history one_ u calls lane size window l y allow (Initiates p
     (record { due = refl; waits = refl }) tt (λ n. refl) refl
     (refl, (λ n. law.planned g spells history at allow size window p units is n), refl, refl) refl
     (refl, (λ n. received.planned spells history at allow p is n), refl) tt (refl, refl)
-    (law.begin_yet g spells history at allow size window p.lane false) true_ run lost
-lists_stop g spells history one_ u calls lane size window l y allow
-    (Responds own units at before cs c z by seen is true_) values opens owns run lost =
+    (law.begin_yet g spells history at allow size window p.lane false) true_ run ends
+lists_good g spells history one_ u calls lane size window l y allow
+    (Responds own units at before cs c z by seen is true_) values opens owns run ends =
     let start : Ready action.Read (new_responder own units) = record { due = refl; waits = refl } in
     let later = later_calls before cs c action.Read (new_responder own units) u start run in
     let begins = begins_done c.turn later.is (is_some (step_by c.turn.before.phase c.turn.event c.turn.after) z by) in
@@ -425,5 +432,5 @@ lists_stop g spells history one_ u calls lane size window l y allow
     (asked_next c.turn.action c.turn.before c.turn.event c.turn.after later.is.follows) (λ n. refl) sends.run sends.at
     gets.run gets.at begins.allowed begins.holds (law.begin_yet g spells history at allow size window lane_ true) true_
     later.run
-    (subst (λ n. IsLost spells history n (action_of c.turn.action cs) u y) sees
-    (subst (λ k. IsLost spells history (seen_of (at + 1) (before ++ c ∷ cs)) k u y) acts lost)))
+    (subst (λ n. EndsAs spells history n (action_of c.turn.action cs) u y) sees
+    (subst (λ k. EndsAs spells history (seen_of (at + 1) (before ++ c ∷ cs)) k u y) acts ends)))
