@@ -40,7 +40,7 @@ use Rattle.mta_session_laws.proofs.CallsRecv.{append_run, puts_go, except_goes, 
 use Rattle.mta_session_laws.proofs.Ending.{excepts_way}
 use Rattle.mta_session_laws.proofs.Runs.{open_goes_on}
 use Rattle.mta_session_laws.proofs.Opening.{wanted_in}
-use Rattle.mta_session_laws.proofs.OpeningRecv.{refusal_says_nothing}
+use Rattle.mta_session_laws.proofs.Rows.{refusal_says_nothing}
 
 -- What is told where a session does not go on -----------------------------------------------------
 

@@ -9,14 +9,13 @@ pub mod CausesOfUnits
 pub mod Writing
 pub mod WritingUnits
 pub mod Opening
+pub mod Rows
 pub mod Linking
 pub mod Ending
 pub mod Whole
 pub mod OpeningRecv
 pub mod EndingRecv
-pub mod WholeRecv
 pub mod Wants
-pub mod Replies
 pub mod OrderedCalls
 pub mod Order
 pub mod Ends

@@ -1,45 +1,40 @@
 -- What units and other events call for, and what one call of a session does.
-use Rattle.std.proofs.Common.{◌≡◌, inr, ℕ, ◌-◌, ◌&&◌, ◌||◌, ◌==◌, not, if◌then◌else◌, Bool, true}
-use Rattle.std.proofs.Common.{false, Option, Some, None, refl, sym, ap, subst, ◌∙◌}
-use Rattle.std.specs.Str.{bytes_eq}
-use Rattle.mta_lane_send.specs.Half.{is_idle, is_ending, last_of}
-use Rattle.mta_rtse.specs.declared.types.Answer.{Answer}
-use Rattle.mta_rtse.specs.declared.types.Answer.TheVariants as answer
+use Rattle.std.proofs.Common.{◌≡◌, inl, inr, ℕ, ◌-◌, ◌==◌, if◌then◌else◌, Bool, true}
+use Rattle.std.proofs.Common.{false, Option, Some, None, refl, rules, sym, ap, subst, ◌∙◌}
 use Rattle.mta_units.specs.declared.unit.Unit.{Unit as AnyUnit}
 use Rattle.mta_units.specs.declared.unit.Unit.TheVariants as unit
+use Rattle.mta_units.specs.declared.unit.OpenUnit.{OpenUnit}
 use Rattle.mta_transfer_rules.specs.Units as u
-use Rattle.mta_transfer_rules.specs.Sending.{SendEnd}
 use Rattle.mta_transfer_rules.specs.Receiving as r
-use Rattle.mta_transfer_rules.specs.Receiving.{RecvEnd, RecvStage}
+use Rattle.mta_transfer_rules.specs.Receiving.{RecvStage}
 use Rattle.mta_session.specs.declared.ask.Ask.{Ask}
 use Rattle.mta_session.specs.declared.ask.Ask.TheVariants as ask
 use Rattle.mta_session.specs.declared.event.Event.{Event}
 use Rattle.mta_session.specs.declared.event.Event.TheVariants as event
 use Rattle.mta_session.specs.declared.event.Action.{Action}
 use Rattle.mta_session.specs.declared.event.Action.TheVariants as action
-use Rattle.mta_session.specs.declared.event.Side.{Side}
-use Rattle.mta_session.specs.declared.event.Side.TheVariants as side
-use Rattle.mta_session.specs.declared.event.InitiatorPlan.{InitiatorPlan}
 use Rattle.mta_session.specs.declared.event.SessionEnd.{SessionEnd}
+use Rattle.mta_session.specs.declared.peer.Peer.{Peer}
 use Rattle.mta_session.specs.declared.phase.Phase.{Phase}
 use Rattle.mta_session.specs.declared.phase.Phase.TheVariants as phase
 use Rattle.mta_session.specs.declared.phase.OwnStep.{OwnStep}
 use Rattle.mta_session.specs.declared.phase.OwnStep.TheVariants as own
 use Rattle.mta_session.specs.declared.phase.Found.{Found}
-use Rattle.mta_session.specs.Receiving.{taken, is_free, emptied}
-use Rattle.mta_session.specs.Sending.{called, heard, is_discard_put}
-use Rattle.mta_session.specs.State.{State, is_initiator}
+use Rattle.mta_session.specs.Receiving.{emptied}
+use Rattle.mta_session.specs.State.{State}
 use Rattle.mta_session.specs.Rank.{is_over}
 use Rattle.mta_session.specs.Wanted.{Wanted, Aborts, Rejects, Ends, Puts, Asks, Reads, Goes_on, Excepts, Never, wanted}
-use Rattle.mta_session.specs.Wanted.{wanted_of_go, wanted_of_unit, wanted_of_over, begins, is_refused_value}
-use Rattle.mta_session.specs.Wanted.{is_same_reference, ask_of, on_values, on_accept, on_reject, on_close, on_abort}
-use Rattle.mta_session.specs.Wanted.{as_holder, makes_or, as_listener, takes, on_answer_by, goes_on_if}
+use Rattle.mta_session.specs.Wanted.{ask_of}
+use Rattle.mta_session.specs.Wanted.{with_lane}
 use Rattle.mta_session.specs.Follows.{Of_receiver, Of_neither, part_of, part_of_abort, PutsFor, AsksFor, GoesOn}
 use Rattle.mta_session.specs.Follows.{ExceptsFor, Does, FollowsAt, counted, OwesNothing}
 use Rattle.mta_session.specs.Fits.{Fits, FitsAt}
 use Rattle.mta_session_laws.specs.Order.{is_due, is_putting, is_reading, is_asking, awaits}
-use Rattle.mta_session_laws.proofs.Wants.{is_reads, waits, Enters, Says, SaysAsk, Due, Leads, if_leads, never, not_ours}
-use Rattle.mta_session_laws.proofs.Replies.{reply_leads}
+use Rattle.mta_session_laws.proofs.Wants.{is_reads, waits, Enters, Says, SaysAsk, Due, Leads, never, not_ours}
+use Rattle.mta_session_laws.proofs.Events.{wanted_same}
+use Rattle.mta_session_laws.proofs.Opening.{wanted_in}
+use Rattle.mta_session_laws.proofs.Rows.{Row, row, awaits_ack, gives_pleased, none_closes, none_gives, step_called, piece_taken}
+use Rattle.mta_session_laws.proofs.Rows.{lane_accepted, dropped, dropped_bad}
 
 abbrev Clear : State → Type 0
 Clear t = is_due t.recv.stage ≡ false
@@ -48,43 +43,7 @@ Clear t = is_due t.recv.stage ≡ false
 abbrev less : State → State
 less t = record t { left = t.left - 1 }
 
--- Units --------------------------------------------------------------------------------------
-
-abort_leads : (t : State) (reason : ℕ) → Leads t (event.Unit (unit.Abort reason)) (on_abort (less t) reason)
-abort_leads t reason =
-    let e : Event = event.Unit (unit.Abort reason) in
-    if_leads t e ((reason == 2) && not (is_idle t.send.state)) _ _ (λ b. (refl, tt, tt, refl))
-    (λ b. if_leads t e ((reason == 7) && is_ending t.send.state (last_of t.send.state) && is_discard_put t.send.stage
-    (last_of t.send.state)) _ _
-    (λ c. (refl, tt, tt, refl)) (λ c. tt))
-
-values_lead : (t : State) (e : Event) (c w : ℕ) → Clear t → Leads t e (on_values (less t) c w)
-values_lead t e c w d =
-    if_leads t e (is_refused_value (less t) c w) _ _ (λ b. tt)
-    (λ b. if_leads t e t.agreed _ _ (λ g. λ o. d) (λ g. (refl, tt, tt, d)))
-
-accept_leads : (t : State) (e : Event) (p : InitiatorPlan) (c w : ℕ) (a : Answer) → Clear t
-    → Leads t e (on_accept p (less t) c w a)
-accept_leads t e p c w (answer.Bind name password) d =
-    if_leads t e p.recovering _ _ (λ b. tt)
-    (λ b. if_leads t e (bytes_eq name p.peer && bytes_eq password p.expected_password) _ _ (λ g. values_lead t e c w d)
-    (λ g. tt))
-accept_leads t e p c w (answer.Recover reference) d =
-    if_leads t e (p.recovering && is_same_reference reference p.reference) _ _ (λ b. values_lead t e c w d) (λ b. tt)
-
-reject_leads : (t : State) (p : InitiatorPlan) (reason : ℕ)
-    → Leads t (event.Unit (unit.Reject reason)) (on_reject p (less t) reason)
-reject_leads t p reason =
-    let e : Event = event.Unit (unit.Reject reason) in
-    if_leads t e ((reason == 1) && not (is_idle t.send.state)) _ _ (λ b. (refl, tt, tt, refl))
-    (λ b. if_leads t e ((reason == 1) || not p.recovering) _ _ (λ c. (refl, tt, tt, refl)) (λ c. tt))
-
-answer_leads : (x : Side) (t : State) (y : AnyUnit) → Clear t → Leads t (event.Unit y) (on_answer_by x (less t) y)
-answer_leads (side.Initiator p) t (unit.Accept c w a) d = accept_leads t _ p c w a d
-answer_leads (side.Initiator p) t (unit.Reject reason) d = reject_leads t p reason
-answer_leads (side.Initiator p) t (unit.Abort reason) d = abort_leads t reason
-answer_leads (side.Initiator p) t y d = tt
-answer_leads (side.Responder own) t y d = tt
+-- What is wanted ----------------------------------------------------------------------------
 
 step_says : (t : State) (e : Event) (step : OwnStep) → SaysAsk e (ask_of t step)
 step_says t e (own.Confirm n) = tt
@@ -93,79 +52,29 @@ step_says t e own.Sent = tt
 step_says t e own.Dropped = tt
 step_says t e (own.Refused kind) = tt
 
-passes_leads : (t : State) (e : Event) (f : Option SendEnd) → Clear t → Leads t e (goes_on_if (less t) f)
-passes_leads t e (Some f) d = λ o. d
-passes_leads t e None d = tt
+lane_clear : (t : State) (o : Option OpenUnit) (p : Option Peer) (lane : ℕ) → Clear t → Clear (with_lane t o p lane)
+lane_clear t (Some o) (Some p) lane d = d
+lane_clear t (Some o) None lane d = d
+lane_clear t None p lane d = d
 
-makes_leads : (t : State) (e : Event) (x : AnyUnit) (c : Option OwnStep) → Clear t → Leads t e (makes_or (less t) x c)
-makes_leads t e x (Some step) d = (refl, tt, step_says (less t) e step, d)
-makes_leads t e x None d = passes_leads t e (heard t.send x) d
-
-holder_leads : (t : State) (x : AnyUnit) → Clear t → Leads t (event.Unit x) (as_holder (less t) x)
-holder_leads t (unit.Please priority) d = if_leads t _ t.twa _ _ (λ b. λ o. d) (λ b. tt)
-holder_leads t x d = makes_leads t (event.Unit x) x (called t.send x) d
-
-close_leads : (t : State) → Clear t → Leads t (event.Unit unit.Close) (on_close (less t))
-close_leads t d =
-    let e : Event = event.Unit unit.Close in
-    if_leads t e t.please _ _ (λ b. λ o. d)
-    (λ b. if_leads t e (t.twa && not (is_idle t.send.state)) _ _ (λ c. (refl, tt, tt, d))
-    (λ c. (refl, tt, tt, refl)))
-
-takes_leads : (t : State) (e : Event) (f : Option RecvEnd) → t.ours ≡ false → Leads t e (takes (less t) f)
-takes_leads t e (Some f) o = λ i. absurd (not_ours t.ours o i)
-takes_leads t e None o = tt
-
-listener_leads : (t : State) (x : AnyUnit) → t.ours ≡ false → Clear t → Leads t (event.Unit x) (as_listener (less t) x)
-listener_leads t unit.Give o d = if_leads t _ (t.twa && is_free t.recv.stage) _ _ (λ b. λ i. d) (λ b. tt)
-listener_leads t unit.Close o d = if_leads t _ (not (is_initiator t.side) && is_free t.recv.stage) _ _
-    (λ b. close_leads t d) (λ b. tt)
-listener_leads t (unit.Please priority) o d = if_leads t _ t.twa _ _ (λ b. λ i. d) (λ b. tt)
-listener_leads t x o d = takes_leads t (event.Unit x) (taken t.checkpoint t.recv x) o
-
-reads_leads : (t : State) (x : AnyUnit) → Clear t → Leads t (event.Unit x) (wanted_of_unit phase.Reads (less t) x)
-reads_leads t (unit.Abort reason) d = abort_leads t reason
-reads_leads t x d = if_leads t (event.Unit x) t.ours _ _ (λ o. holder_leads t x d) (λ o. listener_leads t x o d)
-
-unit_leads : (p : Phase) (t : State) (x : AnyUnit) → t.phase ≡ p → Due p t.recv.stage
-    → Leads t (event.Unit x) (wanted_of_unit p (less t) x)
-unit_leads phase.ReadsOpen t (unit.Open o) q d = (refl, tt, tt, d)
-unit_leads phase.ReadsOpen t x q d = tt
-unit_leads phase.ReadsAnswer t x q d = answer_leads t.side t x d
-unit_leads phase.ReadsCloseAck t unit.CloseAck q d = (refl, tt, tt, refl)
-unit_leads phase.ReadsCloseAck t (unit.Please priority) q d =
-    if_leads t _ t.twa _ _ (λ b. (refl, tt, inr (q, priority, refl), d)) (λ b. tt)
-unit_leads phase.ReadsCloseAck t (unit.Abort reason) q d = abort_leads t reason
-unit_leads phase.ReadsCloseAck t x q d = tt
-unit_leads phase.Reads t x q d = reads_leads t x d
-unit_leads p t x q d = tt
-
--- The other events ---------------------------------------------------------------------------
-
-begins_leads : (t : State) (x : Side) → Clear t → Leads t event.Go (begins x t)
-begins_leads t (side.Initiator p) d = if_leads t _ p.recovering _ _ (λ b. (refl, tt, tt, d)) (λ b. (refl, tt, tt, d))
-begins_leads t (side.Responder own) d = (refl, tt, d)
-
-go_leads : (p : Phase) (t : State) → t.phase ≡ p → Due p t.recv.stage → Leads t event.Go (wanted_of_go p t)
-go_leads phase.Begin t q d = begins_leads t t.side d
-go_leads phase.PutsOpen t q d = (refl, tt, d)
-go_leads phase.PutsAccept t q d =
-    if_leads t _ t.twa _ _ (λ b. if_leads t _ (is_idle t.send.state) _ _ (λ c. (refl, tt, tt, d))
-    (λ c. (refl, tt, tt, d))) (λ b. λ o. d)
-go_leads phase.Puts t q d = λ o. d
-go_leads phase.PutsClose t q d = (refl, (q, refl), d)
-go_leads p t q d = tt
-
-over_leads : (p : Phase) (t : State) → Leads t event.Over (wanted_of_over p)
-over_leads (phase.PutsLast x) t = tt
-over_leads p t = tt
+row_leads : (t : State) (p : Phase) (e : Event) (w : Wanted) → Row (counted t e) p e w → t.phase ≡ p → FitsAt p t
+    → Due p t.recv.stage → Leads t e w
+row_leads t p e w awaits_ack q f d = (refl, (q, refl), d)
+row_leads t p e w (gives_pleased n b) q f d = (refl, tt, inr (q, n, refl), d)
+row_leads t p e w (none_closes b) q f d = (refl, refl, refl, d)
+row_leads t p e w (none_gives b) q f d = (refl, tt, inl refl, d)
+row_leads t p e w (step_called x step o c a) q f d = (refl, tt, step_says (less t) (event.Unit x) step, d)
+row_leads t p e w (piece_taken x h o c a) q f d = λ i. absurd (not_ours t.ours o i)
+row_leads t p e w (lane_accepted again lane a) q f d = (refl, tt, tt, lane_clear t t.opened t.line lane d)
+row_leads t p e w (dropped k v) q f d = λ i. absurd (not_ours t.ours f.1 i)
+row_leads t p e w (dropped_bad k y v) q f d =
+    let at : t.recv.stage ≡ r.Found k = f.2 in
+    subst (λ z. is_due z ≡ false) (sym at) refl
+row_leads t p e w x q f d = search rules
 
 leads : (t : State) (e : Event) → Fits t → Due t.phase t.recv.stage → Leads t e (wanted (counted t e) e)
-leads t event.Go f d = go_leads t.phase t refl d
-leads t (event.Unit x) f d = if_leads t _ (t.left - 1 == 0) _ _ (λ b. tt) (λ b. unit_leads t.phase t x refl d)
-leads t event.BadUnit f d = if_leads t _ (t.left - 1 == 0) _ _ (λ b. tt) (λ b. tt)
-leads t (event.Reply x) f d = reply_leads t.phase t x refl f d
-leads t event.Over f d = over_leads t.phase t
+leads t e f d = subst (λ w. Leads t e w) (wanted_same t e)
+    (row_leads t t.phase e (wanted_in t.phase (counted t e) e) (row t.phase (counted t e) e) refl f d)
 
 -- What is done -------------------------------------------------------------------------------
 

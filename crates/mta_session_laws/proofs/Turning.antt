@@ -2,7 +2,6 @@
 use Rattle.std.proofs.Common.{rules, ◌&&◌, ◌≡◌, ℕ, Bool, true, false, Option, Some, None, List, [], ◌∷◌, refl, arith}
 use Rattle.std.proofs.Common.{◌||◌, sym, ◌∙◌, ap, subst}
 use Rattle.mta_units.specs.declared.unit.Unit.{Unit as AnyUnit}
-use Rattle.mta_units.specs.declared.unit.Unit.TheVariants as unit
 use Rattle.mta_lane_send.specs.declared.state.SendState.{SendState}
 use Rattle.mta_lane_send.specs.declared.state.SendState.TheVariants as state
 use Rattle.mta_lane_send.specs.Half.{is_idle, is_sending, last_of, confirmed_at}
@@ -10,16 +9,13 @@ use Rattle.mta_transfer_rules.specs.Units.{LaneUnit}
 use Rattle.mta_transfer_rules.specs.Units as u
 use Rattle.mta_transfer_rules.specs.Sending as s
 use Rattle.mta_transfer_rules.specs.Sending.{SendEnd}
-use Rattle.mta_session.specs.declared.phase.OwnStep.{OwnStep}
 use Rattle.mta_session.specs.declared.phase.OwnStep.TheVariants as own
 use Rattle.mta_session.specs.declared.phase.Phase.TheVariants as phase
-use Rattle.mta_session_laws.specs.Called.{heard_as, forget, StepsAreCalled, StepsNeedActivity, PassingIsGot}
-use Rattle.mta_session.specs.Sending.{called, heard, step_of}
+use Rattle.mta_session_laws.specs.Called.{forget}
 use Rattle.mta_session.specs.State.{State}
-use Rattle.mta_session.specs.Wanted.{is_cut, is_given_up, as_holder, makes_or, goes_on_if}
+use Rattle.mta_session.specs.Wanted.{is_cut, is_given_up}
 use Rattle.mta_session.specs.Follows.{PutsFor, Of_sender}
-use Rattle.mta_session_laws.specs.Turning.{kept, listed, Reaches, SendGoes, HolderGoes, StepGoes, StartGoes}
-use Rattle.mta_session_laws.specs.Turning.{AbandonGoes, PutGoes}
+use Rattle.mta_session_laws.specs.Turning.{kept, listed, Reaches, StepGoes, StartGoes}
 
 -- a unit got, of which nothing is kept
 pub got_is : (e f : SendEnd) (h : Option LaneUnit) (o : List ℕ) (x : LaneUnit) → forget (s.got e x) ≡ f
@@ -34,69 +30,17 @@ or_none false = refl
 pub other : (e : SendEnd) → e.heard ≡ None → forget (s.got e u.Other) ≡ e
 other e c = grind (arith, or_none, c)
 
-please : (t : State) (h : Option LaneUnit) (o : List ℕ) (priority : ℕ) → t.send.heard ≡ None → (b : Bool) → t.twa ≡ b →
-    SendGoes (listed t.send h o) (s.Got u.Other ∷ []) (as_holder t (unit.Please priority))
-please t h o priority c true q = rw q (Some u.Other, o, (tt, got_is t.send t.send h o u.Other (other t.send c)), tt)
-please t h o priority c false q = rw q tt
-
--- it passes, or the session is over
-passes : (p : PassingIsGot) (t : State) (h : Option LaneUnit) (o : List ℕ) (x : AnyUnit) → t.send.heard ≡ None
-    → called t.send x ≡ None → (f : Option SendEnd) → heard t.send x ≡ f →
-    SendGoes (listed t.send h o) (s.Got (heard_as x) ∷ []) (goes_on_if t f)
-passes p t h o x c n None q = tt
-passes p t h o x c n (Some f) q =
-    (Some (heard_as x), o, (tt, got_is t.send f h o (heard_as x) (p t.send f x c n q).0), tt)
-
 -- the octets of an activity that is under way are kept
 pub kept_live : (st : SendState) (o x : List ℕ) → is_idle st ≡ false → kept st o x ≡ x
 kept_live (state.Idle last) o x l = search l
 kept_live any0 o x l = refl
 
-made_listed : (e : SendEnd) (o : List ℕ) (x : LaneUnit) (step : s.SendStep) → is_idle e.state ≡ false
+pub made_listed : (e : SendEnd) (o : List ℕ) (x : LaneUnit) (step : s.SendStep) → is_idle e.state ≡ false
     → s.MayMake (s.got e x) step → forget (s.got e x) ≡ e → s.MayMake (listed e (Some x) o) step
 made_listed e o x step l m eq =
     let whole : listed e (Some x) o ≡ record e { heard = Some x } = rw (kept_live e.state o e.octets l) refl in
     let same : record e { heard = Some x } ≡ s.got e x = ap {A = SendEnd} (λ z. record z { heard = Some x }) (sym eq) in
     subst (λ z. s.MayMake z step) (sym (whole ∙ same)) m
-
--- a step is asked for, or it passes
-makes : (m : StepsAreCalled) (n : StepsNeedActivity) (p : PassingIsGot) (t : State) (h : Option LaneUnit) (o : List ℕ)
-    (x : AnyUnit) → t.send.heard ≡ None → (w : Option OwnStep) → called t.send x ≡ w →
-    SendGoes (listed t.send h o) (s.Got (heard_as x) ∷ []) (makes_or t x w)
-makes m n p t h o x c None q = passes p t h o x c q (heard t.send x) refl
-makes m n p t h o x c (Some step) q =
-    let both = m t.send x step c q in (
-      Some (heard_as x),
-      o,
-      (tt, got_is t.send t.send h o (heard_as x) both.1),
-      made_listed t.send o (heard_as x) (step_of step) (n t.send x step q) both.0 both.1,
-    )
-
-pub holder_goes : StepsAreCalled → StepsNeedActivity → PassingIsGot → HolderGoes
-holder_goes m d p t h o (unit.Open o1) z = makes m d p t h o (unit.Open o1) z (called t.send (unit.Open o1)) refl
-holder_goes m d p t h o (unit.Accept c w a) z =
-    makes m d p t h o (unit.Accept c w a) z (called t.send (unit.Accept c w a)) refl
-holder_goes m d p t h o (unit.Reject r) z = makes m d p t h o (unit.Reject r) z (called t.send (unit.Reject r)) refl
-holder_goes m d p t h o (unit.Start k) z = makes m d p t h o (unit.Start k) z (called t.send (unit.Start k)) refl
-holder_goes m d p t h o (unit.Piece o1) z = makes m d p t h o (unit.Piece o1) z (called t.send (unit.Piece o1)) refl
-holder_goes m d p t h o (unit.Sync n) z = makes m d p t h o (unit.Sync n) z (called t.send (unit.Sync n)) refl
-holder_goes m d p t h o (unit.SyncAck n) z = makes m d p t h o (unit.SyncAck n) z (called t.send (unit.SyncAck n)) refl
-holder_goes m d p t h o (unit.End k) z = makes m d p t h o (unit.End k) z (called t.send (unit.End k)) refl
-holder_goes m d p t h o (unit.EndAck k) z = makes m d p t h o (unit.EndAck k) z (called t.send (unit.EndAck k)) refl
-holder_goes m d p t h o (unit.Resume k n) z =
-    makes m d p t h o (unit.Resume k n) z (called t.send (unit.Resume k n)) refl
-holder_goes m d p t h o (unit.ResumeAck k n) z =
-    makes m d p t h o (unit.ResumeAck k n) z (called t.send (unit.ResumeAck k n)) refl
-holder_goes m d p t h o (unit.Discard k) z = makes m d p t h o (unit.Discard k) z (called t.send (unit.Discard k)) refl
-holder_goes m d p t h o (unit.DiscardAck k) z =
-    makes m d p t h o (unit.DiscardAck k) z (called t.send (unit.DiscardAck k)) refl
-holder_goes m d p t h o unit.Give z = makes m d p t h o unit.Give z (called t.send unit.Give) refl
-holder_goes m d p t h o (unit.Exception kind at) z =
-    makes m d p t h o (unit.Exception kind at) z (called t.send (unit.Exception kind at)) refl
-holder_goes m d p t h o (unit.Abort r) z = makes m d p t h o (unit.Abort r) z (called t.send (unit.Abort r)) refl
-holder_goes m d p t h o unit.Close z = makes m d p t h o unit.Close z (called t.send unit.Close) refl
-holder_goes m d p t h o unit.CloseAck z = makes m d p t h o unit.CloseAck z (called t.send unit.CloseAck) refl
-holder_goes m d p t h o (unit.Please priority) z = please t h o priority z t.twa refl
 
 kept_confirmed : (st : SendState) (n : ℕ) (o x : List ℕ) → kept (confirmed_at st n) (kept st o x) x ≡ kept st o x
 kept_confirmed (state.Idle last) n o x = refl
@@ -139,20 +83,6 @@ given_up t (state.Dropping k) g =
     sending_last t.send.state k (both_true (is_sending t.send.state k) (is_cut t.send.stage k) g)
 given_up t any1 g = search g
 
-pub abandon_goes : AbandonGoes
-abandon_goes t h o told c g =
-    let l = given_up t told g in
-    rw g (
-      h,
-      [],
-      (
-        l,
-        rw (kept_live t.send.state o t.send.octets (sending_live t.send.state (last_of t.send.state) l))
-            refl,
-      ),
-      tt,
-    )
-
 -- what may be put does not rest on what was heard
 puts_same : (e : SendEnd) (h : Option LaneUnit) (y : LaneUnit) → s.MayPut e y → s.MayPut (record e { heard = h }) y
     × (s.put (record e { heard = h }) y ≡ s.put e y)
@@ -173,6 +103,3 @@ put_then t h o x y new l g =
     let sent : new.send ≡ s.put e y = ap {A = State} (λ z. z.send) g.2 in
     let same : listed new.send None [] ≡ s.put (record e { heard = h }) y = rw sent (after ∙ sym both.1) in
     (None, [], subst (λ z. s.IsSendingEnd z (s.Put y ∷ []) (listed new.send None [])) (sym whole) (both.0, same), tt)
-
-pub put_goes : PutGoes
-put_goes t h o x y new l q g = put_then t h o x y new l (subst (λ z. PutsFor t z x new) q g)

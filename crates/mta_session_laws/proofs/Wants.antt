@@ -1,5 +1,5 @@
 -- What an event calls for: which phases it leads to, what is put and asked, and which answers are due then.
-use Rattle.std.proofs.Common.{◌≡◌, ◌⊎◌, ℕ, if◌then◌else◌, Bool, true, false, None, Ok, refl, sym}
+use Rattle.std.proofs.Common.{◌≡◌, ◌⊎◌, ℕ, Bool, true, false, None, Ok, sym}
 use Rattle.std.proofs.Common.{◌∙◌}
 use Rattle.mta_units.specs.declared.unit.Unit.{Unit as AnyUnit}
 use Rattle.mta_units.specs.declared.unit.Unit.TheVariants as unit
@@ -59,11 +59,6 @@ Leads t e (Reads v) = (waits v.phase ≡ true) × Enters t e v.phase × Due v.ph
 Leads t e (Goes_on v) = v.ours ≡ true → is_due v.recv.stage ≡ false
 Leads t e (Excepts v f) = is_due v.recv.stage ≡ false
 Leads t e Never = Unit {0}
-
-pub if_leads : (t : State) (e : Event) (b : Bool) (w v : Wanted) → (b ≡ true → Leads t e w) → (b ≡ false → Leads t e v)
-    → Leads t e (if b then w else v)
-if_leads t e true w v p q = p refl
-if_leads t e false w v p q = q refl
 
 pub never : false ≡ true → ⊥
 never i = cc

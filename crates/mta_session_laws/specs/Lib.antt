@@ -4,6 +4,5 @@ pub mod Runs
 pub mod Turning
 pub mod TurningRecv
 pub mod Whole
-pub mod WholeRecv
 pub mod Writing
 pub mod Order

@@ -26,9 +26,9 @@ use Rattle.mta_session.specs.Sending.{step_of}
 use Rattle.mta_session_laws.specs.Called.{heard_as}
 use Rattle.mta_session.specs.State.{State}
 use Rattle.mta_session.specs.Wanted.{Wanted, Aborts, Rejects, Ends, Puts, Asks, Reads, Goes_on, Excepts, Never}
-use Rattle.mta_session.specs.Wanted.{as_holder, on_step, on_start, on_state, is_given_up, wanted, within}
+use Rattle.mta_session.specs.Wanted.{on_step, on_start, is_given_up, wanted, within}
 use Rattle.mta_session.specs.Wanted.{wanted_of_unit}
-use Rattle.mta_session.specs.Follows.{Part, Of_sender, Of_receiver, Of_neither, part_of, GoesOn, Follows, counted}
+use Rattle.mta_session.specs.Follows.{Part, Of_sender, Of_receiver, Of_neither, part_of, Follows, counted}
 use Rattle.mta_session.specs.Fits.{Fits, Answers}
 
 abbrev pub kept : SendState → List ℕ → List ℕ → List ℕ
@@ -99,12 +99,6 @@ SendGoes e events (Rejects reason) = Unit {0}
 SendGoes e events (Ends x) = Unit {0}
 SendGoes e events Never = Unit {0}
 
--- A unit that a holder of the turn gets
-abbrev pub HolderGoes : Type 0
-HolderGoes =
-    (t : State) (h : Option LaneUnit) (o : List ℕ) (x : AnyUnit) → t.send.heard ≡ None →
-    SendGoes (listed t.send h o) (s.Got (heard_as x) ∷ []) (as_holder t x)
-
 -- The step that was asked for is made
 abbrev pub StepGoes : Type 0
 StepGoes =
@@ -119,20 +113,6 @@ StartGoes =
     → is_idle t.send.state ≡ true →
     t.send.stage ≡ s.Quiet → 1 ≤ length x.octets →
     SendGoes (listed t.send h o) (s.Made (s.Start x.octets) ∷ []) (on_start t (Ok x))
-
--- Another worker gave the activity up
-abbrev pub AbandonGoes : Type 0
-AbandonGoes =
-    (t : State) (h : Option LaneUnit) (o : List ℕ) (told : SendState) → t.send.heard ≡ None →
-    is_given_up t told ≡ true →
-    SendGoes (listed t.send h o) (s.Made s.Abandon ∷ []) (on_state t (Some told))
-
--- A unit of the own activity is put
-abbrev pub PutGoes : Type 0
-PutGoes =
-    (t : State) (h : Option LaneUnit) (o : List ℕ) (x : AnyUnit) (y : LaneUnit) (new : State) →
-    is_idle t.send.state ≡ false → part_of x ≡ Of_sender y →
-    GoesOn t (action.Put x) new → Reaches (listed t.send h o) (s.Put y ∷ []) phase.Puts new.send
 
 -- The events of the sending end in one call --------------------------------------------------
 

@@ -2,13 +2,10 @@
 
 ghost use Rattle.mta_session_laws.specs.Causes.{EndsHaveCauses};
 ghost use Rattle.mta_session_laws.specs.Runs.{SendingRuns, ReceivingRuns};
-ghost use Rattle.mta_session_laws.specs.Whole.{SessionsSend};
-ghost use Rattle.mta_session_laws.specs.WholeRecv.{SessionsReceive};
 ghost use Rattle.mta_session_laws.specs.Writing.{PutsMayBeWritten};
 ghost use Rattle.mta_session_laws.specs.Called.{StepsAreCalled, StepsNeedActivity, PassingIsGot, StartsMayBeMade};
 ghost use Rattle.mta_session_laws.specs.TurningRecv.{EventsGo as ReceiverEventsGo, CallsGo as ReceiverCallsGo};
-ghost use Rattle.mta_session_laws.specs.Turning.{StepGoes, StartGoes, AbandonGoes, PutGoes, HolderGoes, EventsGo};
-ghost use Rattle.mta_session_laws.specs.Turning.{CallsGo};
+ghost use Rattle.mta_session_laws.specs.Turning.{StepGoes, StartGoes, EventsGo, CallsGo};
 
 /// The steps that a session asks for are called for by the units that it got.
 pub fn steps_are_called()
@@ -18,27 +15,17 @@ pub fn steps_are_called()
     ensures starts { StartsMayBeMade }
 {}
 
-/// So it is with a step that was made, with an activity that is started, with one that another worker gave up, and with
-/// a unit that is put.
+/// So it is with a step that was made, and with an activity that is started.
 pub fn steps_lead_on()
     ensures steps { StepGoes }
     ensures starts { StartGoes }
-    ensures abandons { AbandonGoes }
-    ensures puts { PutGoes }
 {}
-
-/// What a session makes of a unit that it gets with the turn is what the rules of its sending end allow.
-pub fn units_lead_on()
-    ensures { HolderGoes }
-{
-    steps_are_called();
-}
 
 /// Each event of an open session is one of its sending end, by the rules of that end.
 pub fn events_lead_on()
     ensures { EventsGo }
 {
-    units_lead_on();
+    steps_are_called();
 }
 
 /// One call of an open session: the events of its sending end are allowed, and lead to the end that it has then.
@@ -72,21 +59,6 @@ pub fn sessions_receive_by_the_rules()
     ensures { ReceivingRuns }
 {
     calls_lead_the_receiver_on();
-}
-
-/// The calls of a session, from its first to its end, are one list of events that the rules of sending ends allow: the
-/// new link in front, and behind it all down to the last step.
-pub fn sessions_send_to_the_end()
-    ensures { SessionsSend }
-{
-    calls_lead_on();
-}
-
-/// And one list that the rules of receiving ends allow.
-pub fn sessions_receive_to_the_end()
-    ensures { SessionsReceive }
-{
-    events_lead_the_receiver_on();
 }
 
 /// A session turns to each end only for its cause.

@@ -6,8 +6,8 @@ mod laws;
 mod order_laws;
 
 pub use laws::{
-    ends_have_causes, events_lead_on, sessions_receive_by_the_rules, sessions_receive_to_the_end,
-    sessions_send_by_the_rules, sessions_send_to_the_end, units_put_may_be_written,
+    ends_have_causes, events_lead_on, sessions_receive_by_the_rules, sessions_send_by_the_rules,
+    units_put_may_be_written,
 };
 pub use order_laws::{
     actions_are_awaited, lanes_have_occasion, looks_come_first, nothing_is_owed, sessions_end_so,

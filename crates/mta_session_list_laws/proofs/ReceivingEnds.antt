@@ -25,7 +25,7 @@ use Rattle.mta_session.specs.Follows.{Of_neither, part_of_abort, Does, counted}
 use Rattle.mta_session_laws.specs.Turning.{is_last_phase, called_for}
 use Rattle.mta_session_laws.specs.TurningRecv.{with_put}
 use Rattle.mta_session_laws.proofs.Opening.{wanted_in}
-use Rattle.mta_session_laws.proofs.OpeningRecv.{refusal_says_nothing}
+use Rattle.mta_session_laws.proofs.Rows.{refusal_says_nothing}
 use Rattle.mta_session_laws.specs.Runs.{Turn, IsTurn}
 use Rattle.mta_session_laws.proofs.Whole.{is_ended}
 use Rattle.mta_transfer_laws.specs.Sessions.{receiving_event, answer_unit, answers_of}

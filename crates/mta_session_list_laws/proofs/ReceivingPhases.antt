@@ -28,7 +28,7 @@ use Rattle.mta_session.specs.Follows.{Of_neither, part_of_abort, Does, GoesOn}
 use Rattle.mta_session.specs.Fits.{Fits}
 use Rattle.mta_session_laws.specs.Turning.{is_open, is_last_phase}
 use Rattle.mta_session_laws.specs.TurningRecv.{whole, Reaches, with_put, with_action}
-use Rattle.mta_session_laws.proofs.OpeningRecv.{refusal_says_nothing}
+use Rattle.mta_session_laws.proofs.Rows.{refusal_says_nothing}
 use Rattle.mta_session_laws.proofs.Ending.{IsPutLast, goes_way}
 use Rattle.mta_session_laws.proofs.EndingRecv.{goes_runs}
 use Rattle.mta_transfer_laws.specs.Receivings.{end_on_link}

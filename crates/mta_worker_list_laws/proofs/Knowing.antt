@@ -40,12 +40,11 @@ use Rattle.mta_spool.specs.Stands.{Appends}
 use Rattle.mta_spool.specs.Starting.{IsResumed}
 use Rattle.mta_worker.specs.Answers.{Answered, Binds, lanes_of}
 use Rattle.mta_worker.specs.Turns.{Replied}
-use Rattle.mta_worker_list_laws.proofs.Calm.{does_calm, is_looking, IsCalm}
+use Rattle.mta_worker_list_laws.proofs.Calm.{bind_calm, does_calm, is_looking, IsCalm, link_calm, reply_calm}
 use Rattle.mta_worker_list_laws.proofs.Known.{agreed_for, calm_knows, carried_total, carries_on, first_answered}
 use Rattle.mta_worker_list_laws.proofs.Known.{has_role}
 use Rattle.mta_worker_list_laws.proofs.Known.{IsAnswered, IsSeen, Knows, KnowsAt, put_then}
 use Rattle.mta_worker_list_laws.proofs.Making.{past_last, WasPossible}
-use Rattle.mta_worker_list_laws.proofs.Replying.{bind_calm, link_calm, reply_calm}
 
 -- ---- a lane that was bound
 

@@ -8,7 +8,6 @@ pub mod Turns
 pub mod Calm
 pub mod Waits
 pub mod Known
-pub mod Replying
 pub mod Suiting
 pub mod Knowing
 pub mod Heard

@@ -1,5 +1,5 @@
-use Rattle.mta_session_laws.proofs.Turning.{step_goes, start_goes, abandon_goes, put_goes}
+use Rattle.mta_session_laws.proofs.Turning.{step_goes, start_goes}
 use Rattle.mta_session_laws.proofs.laws.steps_lead_on.Goals as goal
 
 pub returns : goal.returns
-returns c = record { steps = step_goes; starts = start_goes; abandons = abandon_goes; puts = put_goes }
+returns c = record { steps = step_goes; starts = start_goes }
