@@ -4,6 +4,7 @@ ghost use Rattle.std.specs.Prelude.{◌+◌, ◌<◌, ◌≡◌, IfOk, OnErr};
 ghost use Rattle.mta_edge.specs.Causes.{HasCause};
 ghost use Rattle.mta_links.specs.Links.{LeadsBack, LeadsNext, one_more_out, StationView};
 
+use crate::close_why::CloseWhy;
 use crate::link::Link;
 use crate::role::Role;
 use mta_edge::Failed;
@@ -36,4 +37,10 @@ pub trait Station {
         ensures out { model.out self.new + 1 ≡ model.out self.old }
         ensures role { model.role self.new ≡ model.role self.old }
         ensures faults { model.faults self.new ≡ model.faults self.old };
+
+    /// No session is asked for any more, for this reason. What the station holds for sessions to come, as a port, is
+    /// let go; a station that holds nothing of the kind does nothing.
+    fn close(&mut self, _why: CloseWhy)
+        ensures { self.new ≡ self.old }
+    {}
 }

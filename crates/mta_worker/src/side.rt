@@ -10,11 +10,11 @@ ghost use Rattle.mta_worker.specs.Wholes.{AreWorkers};
 use crate::jobs::{Job, deal, gather};
 use crate::worker::work;
 use mta_edge::{Clock, Disk};
-use mta_links::Station;
+use mta_links::{CloseWhy, Station};
 use mta_session::Limits;
 use mta_shared::Shared;
 use mta_spool::Spool;
-use mta_stations::WorkerEnd;
+use mta_stations::{Halt, WorkerEnd};
 use std::alloc::Global;
 use std::sync::Wait;
 use std::thread;
@@ -32,7 +32,16 @@ pub struct Worked<D: Disk + Drop, C: Clock + Drop, S: Drop> {
     pub refused: bool,
 }
 
-// The work of one job.
+// Why the station of a worker that came to this halt is closed.
+fn why_closed(halt: Halt) -> CloseWhy {
+    match halt {
+        Halt::Limit => CloseWhy::Served,
+        Halt::StationEnded | Halt::StationFailed | Halt::NoPeer => CloseWhy::GivenUp,
+        Halt::Disk | Halt::Full { .. } | Halt::Spent { .. } | Halt::Memory => CloseWhy::Refused,
+    }
+}
+
+// The work of one job. Its station is closed once the worker is through, and not when all of them are.
 fn do_job<R: Wait, D: Disk + Drop, C: Clock + Drop, S: Station + Drop>(
     rt: &R,
     alloc: Global,
@@ -44,6 +53,7 @@ fn do_job<R: Wait, D: Disk + Drop, C: Clock + Drop, S: Station + Drop>(
     ensures { JobDone D.model C.model S.Link.model S.model limits.now (lock_of shared.now) job.old job.new }
 {
     let end = work(rt, alloc, shared, &mut job.pass, &mut job.station, limits);
+    job.station.close(why_closed(end.halt));
     job.end = Some(end);
 }
 
