@@ -76,8 +76,7 @@ impl<'a, R: Host> Peer<'a, R> {
     fn wait(&self, stream: &mut TcpStream) -> io::Result<()> {
         let mut poll = Poll::new(self.host)?;
         let mut events = Events::with_capacity(self.host.alloc(), 1)?;
-        poll.registry()
-            .register(stream, CALL, Interest::WRITABLE)?;
+        poll.registry().register(stream, CALL, Interest::WRITABLE)?;
         let mut waited = Duration::ZERO;
         for _ in 0..u64::MAX {
             if waited >= self.patience.answer || self.process.has_failed() {

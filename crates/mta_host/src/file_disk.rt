@@ -137,12 +137,7 @@ impl<'a, R: Files<File = File>> FileDisk<'a, R> {
         )
     }
 
-    fn of(
-        files: &'a R,
-        process: &'a Process,
-        at: Path<'a>,
-        which: Which<'a>,
-    ) -> FileDisk<'a, R> {
+    fn of(files: &'a R, process: &'a Process, at: Path<'a>, which: Which<'a>) -> FileDisk<'a, R> {
         FileDisk {
             files,
             process,

@@ -1,6 +1,5 @@
 //! A port at which peers call, and the connections there that have not begun a session yet.
 
-
 use crate::host::Host;
 use crate::notes::Notes;
 use crate::patience::{OPENING_OCTETS, PLACES, Patience};
