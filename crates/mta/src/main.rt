@@ -1,9 +1,9 @@
 //! `mta`, a message transfer agent of the X.400 family: the process.
 //!
-//! `main` reads the words, opens `mta.tables` and the standard streams in the folder in which it is
-//! called, names `mta.spool`, makes the stations that `serve` names, and hands all to `run` as objects of
-//! `mta_edge` and `mta_links`; it ends with the status that `run` answers. Words that are not UTF-8 are
-//! told the usage line.
+//! `main` makes sure that the descriptors of the standard streams are taken, reads the words, opens
+//! `mta.tables` in the folder in which it is called, names `mta.spool`, makes the stations that `serve`
+//! names, and hands all to `run` as objects of `mta_edge` and `mta_links`; it ends with the status that
+//! `run` answers. Words that are not UTF-8 are told the usage line.
 //!
 //! Something that cannot be opened is an object all of whose calls fail, so `run` tells it as a fault
 //! of that object. Of the real files nothing is proved: they tell nothing of what they hold
@@ -11,14 +11,23 @@
 #![tactic(auto)]
 
 use mta_ber::{Memory, Word};
-use mta_host::{FileDisk, Octets, Patience, Place, Reading, SystemClock, TcpStation, Writing};
+use mta_host::{
+    FileDisk, NO_STREAMS, Octets, Path, Patience, Place, Process, Reading, Streams, SystemClock,
+    TcpStation, Writing,
+};
 use mta_links::Role;
 use mta_run::{Stop, run, tell};
 use mta_words::{StationWord, Words};
 use std::alloc::Global;
 use std::fs::File;
 use std::process::ExitCode;
-use std::{env, io};
+use std::{env, io, process};
+
+// The spool, in the folder in which the program is called.
+const SPOOL: Path<'static> = Path {
+    folder: ".",
+    path: "mta.spool",
+};
 
 // The words behind the program's name.
 fn arguments(rt: &HostRuntime) -> io::Result<Vec<String>> {
@@ -53,16 +62,19 @@ fn port_of(port: u32) -> u16 {
 // The station of a word, which writes what it does to its place.
 fn station_of<'a>(
     rt: &'a HostRuntime,
+    process: &'a Process,
     word: &StationWord,
     place: Place<'a>,
 ) -> Result<TcpStation<'a, HostRuntime>, Memory> {
     let patience = Patience::usual();
     let mut station = match word {
-        StationWord::In { port } => TcpStation::listening(rt, port_of(*port), patience),
+        StationWord::In { port } => {
+            TcpStation::listening(rt, process, port_of(*port), patience)
+        }
         StationWord::Out { peer, host, port } => {
             let role = Role::Out(peer.share()?);
             let host = host_of(rt.alloc(), host.as_slice())?;
-            TcpStation::calling(rt, role, host, port_of(*port), patience)
+            TcpStation::calling(rt, process, role, host, port_of(*port), patience)
         }
     };
     station.set_place(place);
@@ -72,6 +84,7 @@ fn station_of<'a>(
 // The stations that the words name: those of `serve`, and none of another command.
 fn stations_of<'a>(
     rt: &'a HostRuntime,
+    process: &'a Process,
     words: &[String],
 ) -> Result<Vec<TcpStation<'a, HostRuntime>>, Memory> {
     let mut stations = Vec::new(rt.alloc());
@@ -89,13 +102,16 @@ fn stations_of<'a>(
                 station: number,
                 stations: all,
             };
-            stations.push(station_of(rt, word, place)?)?;
+            stations.push(station_of(rt, process, word, place)?)?;
         }
     }
     Ok(stations)
 }
 
 fn main(rt: HostRuntime) -> ExitCode {
+    let Ok(_streams) = Streams::taken(&rt) else {
+        return ExitCode::from(NO_STREAMS);
+    };
     let mut out = Writing::new(io::writer(&rt));
     let words = match arguments(&rt) {
         Ok(words) => words,
@@ -104,7 +120,8 @@ fn main(rt: HostRuntime) -> ExitCode {
             return ExitCode::from(status);
         }
     };
-    let stations = match stations_of(&rt, words.as_slice()) {
+    let process = Process::new(&rt, process::id(rt.process()));
+    let stations = match stations_of(&rt, &process, words.as_slice()) {
         Ok(stations) => stations,
         Err(_) => {
             let status = tell(rt.alloc(), &mut out, &Stop::Memory);
@@ -114,7 +131,7 @@ fn main(rt: HostRuntime) -> ExitCode {
     let mut conf = Reading::new(Octets::File(File::open(&rt, "mta.tables").ok()));
     let mut input = Reading::new(Octets::Stream(rt.reader()));
     // The file is opened at the first call, so a command that calls no disk leaves none behind.
-    let disk = FileDisk::new(&rt, ".", "mta.spool");
+    let disk = FileDisk::new(&rt, &process, SPOOL);
     let clock = SystemClock::new(&rt);
     let finished = run(
         &rt,

@@ -1,17 +1,19 @@
 //! `mta_audit`, two spools lane by lane: the process.
 //!
-//! `main` reads the words, names the two files and standard output, and hands them to `audit_run`; it ends with the
-//! status that this answers. A file that is absent is made, and locked, at its disk's first call, and the lock goes
-//! with the process. Words that are not UTF-8 are told the usage line, and so are two that name one file, whose lock
-//! would wait for itself. A file that cannot be opened fails at every call, so it is told as a disk fault.
+//! `main` makes sure that the descriptors of the standard streams are taken, reads the words, names the two files and
+//! standard output, and hands them to `audit_run`; it ends with the status that this answers. Both files are made where
+//! they are absent, and locked in the order of their devices and numbers, before either is read, and the locks go with
+//! the process. Words that are not UTF-8 are told the usage line, and so are two that name one file. A file that cannot
+//! be opened, and what is no regular file, fails at every call, so it is told as a disk fault.
 #![tactic(auto)]
 
 use mta_audit_run::{Stop, audit_run, tell};
-use mta_host::{FileDisk, Writing};
-use std::fs::File;
-use std::os::unix::fs::MetadataExt;
+use mta_host::{FileDisk, NO_STREAMS, Pair, Path, Process, Streams, Writing};
 use std::process::ExitCode;
-use std::{env, io};
+use std::{env, io, process};
+
+// How many files the words name.
+const FILES: usize = 2;
 
 // The words behind the program's name.
 fn arguments(rt: &HostRuntime) -> io::Result<Vec<String>> {
@@ -47,52 +49,18 @@ fn folder_of(path: &str) -> &str {
     }
 }
 
-// The name of a file in its folder.
-fn name_of(path: &str) -> &str {
-    match path.rsplit_once('/') {
-        Some((_, name)) => name,
-        None => path,
+// Where the file at a path is.
+fn path_of(path: &str) -> Path<'_> {
+    Path {
+        folder: folder_of(path),
+        path,
     }
-}
-
-// Which file is open: its device and its number there; none where that cannot be told.
-fn number_of(file: &File) -> Option<(u64, u64)> {
-    match file.metadata() {
-        Ok(metadata) => Some((metadata.dev(), metadata.ino())),
-        Err(_) => None,
-    }
-}
-
-// The file or folder at a path that stands already; none where none does.
-fn standing(rt: &HostRuntime, path: &str) -> Option<(u64, u64)> {
-    match File::open(rt, path) {
-        Ok(file) => number_of(&file),
-        Err(_) => None,
-    }
-}
-
-// Whether two paths name one file or folder that stands already.
-fn stand_as_one(rt: &HostRuntime, first: &str, second: &str) -> bool {
-    match (standing(rt, first), standing(rt, second)) {
-        (Some(first), Some(second)) => first == second,
-        _ => false,
-    }
-}
-
-// Whether two paths name one file, which may be absent.
-fn is_one_file(rt: &HostRuntime, first: &str, second: &str) -> bool {
-    first == second
-        || stand_as_one(rt, first, second)
-        || (name_of(first) == name_of(second)
-            && stand_as_one(rt, folder_of(first), folder_of(second)))
-}
-
-// The disk of a file, which is opened at the first call.
-fn disk_of<'a>(rt: &'a HostRuntime, path: &'a str) -> FileDisk<'a, HostRuntime> {
-    FileDisk::new(rt, folder_of(path), path)
 }
 
 fn main(rt: HostRuntime) -> ExitCode {
+    let Ok(_streams) = Streams::taken(&rt) else {
+        return ExitCode::from(NO_STREAMS);
+    };
     let mut out = Writing::new(io::writer(&rt));
     let words = match arguments(&rt) {
         Ok(words) => words,
@@ -101,17 +69,16 @@ fn main(rt: HostRuntime) -> ExitCode {
             return ExitCode::from(status);
         }
     };
-    let first = word_at(words.as_slice(), 0);
-    let second = word_at(words.as_slice(), 1);
-    if is_one_file(&rt, first, second) {
+    let words = words.as_slice();
+    let process = Process::new(&rt, process::id(rt.process()));
+    let pair = Pair::new();
+    let (first, second) = (word_at(words, 0), word_at(words, 1));
+    let is_one = first == second;
+    let (mut first, second) =
+        FileDisk::pair(&rt, &process, path_of(first), path_of(second), &pair);
+    if words.len() == FILES && (is_one || first.is_one()) {
         return ExitCode::from(tell(rt.alloc(), &mut out, Stop::Usage));
     }
-    let audited = audit_run(
-        rt.alloc(),
-        words.as_slice(),
-        &mut out,
-        disk_of(&rt, first),
-        disk_of(&rt, second),
-    );
+    let audited = audit_run(rt.alloc(), words, &mut out, first, second);
     ExitCode::from(audited.status)
 }

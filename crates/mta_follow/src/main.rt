@@ -1,6 +1,6 @@
 //! `mta_follow`, a standby on another machine: the process.
 //!
-//! `main` reads the words, names `mta.spool` in the folder in which it is called and standard output, makes the station
+//! `main` makes sure that the descriptors of the standard streams are taken, reads the words, names `mta.spool` in the folder in which it is called and standard output, makes the station
 //! that the words name, and hands all to `follow_run`; it ends with the status that this answers. The file is opened,
 //! made where it is absent, and locked at its disk's first call, and the lock goes with the process. Words that are not
 //! UTF-8 are told the usage line. What cannot be opened fails at every call, so it is told as a fault of that object.
@@ -8,10 +8,19 @@
 
 use mta_ber::{Memory, Octets, Word};
 use mta_follow_run::{Command, Stop, command_of, follow_run, tell};
-use mta_host::{FileDisk, Patience, SystemClock, TcpStation, Writing};
+use mta_host::{
+    FileDisk, NO_STREAMS, Path, Patience, Process, Streams, SystemClock, TcpStation, Writing,
+};
 use mta_links::Role;
 use std::process::ExitCode;
-use std::{env, io};
+use std::time::Duration;
+use std::{env, io, process};
+
+// The spool, in the folder in which the program is called.
+const SPOOL: Path<'static> = Path {
+    folder: ".",
+    path: "mta.spool",
+};
 
 // What the notes of a station call the standby.
 const STANDBY: &[u8] = b"standby";
@@ -42,35 +51,48 @@ fn calling(rt: &HostRuntime) -> Result<Role, Memory> {
     }
 }
 
+// How long a station waits for its peer. The standby puts its first unit once it has the first record whole, which may
+// be long, so it has no time for that.
+fn patience() -> Patience {
+    let mut patience = Patience::usual();
+    patience.admission = Duration::MAX;
+    patience
+}
+
 // The station of the words: the standby's host and port, or the port at which it listens. Of other words none is asked
 // for a link.
 fn station_of<'a>(
     rt: &'a HostRuntime,
+    process: &'a Process,
     words: &[String],
 ) -> Result<TcpStation<'a, HostRuntime>, Memory> {
-    let patience = Patience::usual();
+    let patience = patience();
     match command_of(words) {
         Some(Command::Push { host, port }) => {
             let role = calling(rt)?;
             let host = host.to_string(rt.alloc())?;
-            Ok(TcpStation::calling(rt, role, host, port, patience))
+            Ok(TcpStation::calling(rt, process, role, host, port, patience))
         }
-        Some(Command::Pull { port }) => Ok(TcpStation::listening(rt, port, patience)),
-        None => Ok(TcpStation::listening(rt, 0, patience)),
+        Some(Command::Pull { port }) => Ok(TcpStation::listening(rt, process, port, patience)),
+        None => Ok(TcpStation::listening(rt, process, 0, patience)),
     }
 }
 
 fn main(rt: HostRuntime) -> ExitCode {
+    let Ok(_streams) = Streams::taken(&rt) else {
+        return ExitCode::from(NO_STREAMS);
+    };
     let mut out = Writing::new(io::writer(&rt));
     let words = match arguments(&rt) {
         Ok(words) => words,
         Err(error) => return ExitCode::from(tell(&mut out, stop_of_words(&error))),
     };
-    let station = match station_of(&rt, words.as_slice()) {
+    let process = Process::new(&rt, process::id(rt.process()));
+    let station = match station_of(&rt, &process, words.as_slice()) {
         Ok(station) => station,
         Err(_) => return ExitCode::from(tell(&mut out, Stop::Memory)),
     };
-    let disk = FileDisk::new(&rt, ".", "mta.spool");
+    let disk = FileDisk::new(&rt, &process, SPOOL);
     let clock = SystemClock::new(&rt);
     let followed = follow_run(rt.alloc(), words.as_slice(), &mut out, disk, station, clock);
     ExitCode::from(followed.status)

@@ -1,24 +1,27 @@
 //! A port at which peers call, and the connections there that have not begun a session yet.
 
-ghost use Rattle.std.specs.Prelude.{◌≤◌, length};
-
 use crate::host::Host;
 use crate::notes::Notes;
 use crate::patience::{OPENING_OCTETS, PLACES, Patience};
+use crate::process::Process;
 use crate::tcp_link::TcpLink;
 use crate::unit::is_opening;
 use mio::net::{TcpListener, TcpStream};
 use mio::{Events, Interest, Poll, Token};
+use mta_links::CloseWhy;
 use std::io::{self, ErrorKind};
 use std::net::{Ipv4Addr, Ipv6Addr, SocketAddr};
 use std::thread;
-use std::time::Instant;
+use std::time::{Duration, Instant};
 
-// What a wait reports says no more than that something came: all connections are looked at then.
-const ANY: Token = Token(0);
+// What a wait reports of: the socket that listens, and the connections by the numbers behind it.
+const LISTENER: Token = Token(0);
 
 // Numbers of the system for a socket that is none any more: EBADF, EINVAL, ENOTSOCK.
 const LOST: [i32; 3] = [9, 22, 88];
+
+// Numbers of the system for want of open files: ENFILE of the whole system, EMFILE of the process.
+const SHORT: [i32; 2] = [23, 24];
 
 // What a connection has brought.
 #[derive(Clone, Copy, Debug, PartialEq, Eq)]
@@ -34,13 +37,21 @@ enum Brought {
 #[derive(Drop)]
 struct Waiting {
     stream: TcpStream,
+    number: Token,
     since: Option<Instant>,
     brought: Brought,
+    // Whether something may have come since it was looked at, and whether a wait reports it.
+    is_told: bool,
+    is_registered: bool,
 }
 
 impl Waiting {
-    // Looks at what came, and leaves it for the link.
+    // Looks at what came, where something may have come, and leaves it for the link.
     fn look(&mut self, buffer: &mut [u8]) {
+        if self.is_registered && !self.is_told {
+            return;
+        }
+        self.is_told = false;
         self.brought = match self.stream.peek(buffer) {
             Ok(0) => Brought::End,
             Ok(count) if is_opening(&buffer[..count]) => Brought::Unit,
@@ -85,6 +96,8 @@ struct Door {
     poll: Poll,
     events: Events,
     waiting: Vec<Waiting>,
+    // The number of the connection that was accepted last.
+    last: usize,
 }
 
 impl Door {
@@ -92,16 +105,29 @@ impl Door {
         let mut listener = bind(host, port)?;
         let poll = Poll::new(host)?;
         poll.registry()
-            .register(&mut listener, ANY, Interest::READABLE)?;
+            .register(&mut listener, LISTENER, Interest::READABLE)?;
         Ok(Door {
             listener,
             poll,
             events: Events::with_capacity(host.alloc(), PLACES)?,
             waiting: Vec::with_capacity(host.alloc(), PLACES)?,
+            last: 0,
         })
     }
 
-    // Looks at all connections, and drops those that are over. It answers how many.
+    // Notes of which connections something is told, after so long at most.
+    fn hear(&mut self, longest: Duration) -> io::Result<()> {
+        self.poll.poll(&mut self.events, Some(longest))?;
+        for event in self.events.iter() {
+            let number = event.token();
+            if let Some(at) = self.waiting.iter().position(|it| it.number == number) {
+                self.waiting[at].is_told = true;
+            }
+        }
+        Ok(())
+    }
+
+    // Looks at the connections, and drops those that are over. It answers how many.
     fn look<R: Host>(&mut self, host: &R, patience: Patience) -> usize {
         let mut buffer = [0u8; OPENING_OCTETS];
         for it in self.waiting.iter_mut() {
@@ -124,33 +150,44 @@ impl Door {
         Some(stream)
     }
 
+    // Drops the connection that has waited longest, where one waits.
+    fn drop_oldest(&mut self) -> bool {
+        let is_there = !self.waiting.is_empty();
+        if is_there {
+            self.waiting.remove(0);
+        }
+        is_there
+    }
+
     // One more connection waits, in place of the oldest where there is no room. It answers how many were dropped.
-    fn accept<R: Host>(&mut self, host: &R) -> io::Result<usize> {
+    fn accept<R: Host>(&mut self, host: &R, places: usize) -> io::Result<usize> {
         let (mut stream, _) = self.listener.accept()?;
+        self.last = self.last.wrapping_add(1).max(1);
+        let number = Token(self.last);
         // one that is not registered is looked at after each pause all the same
-        let _ = self
+        let is_registered = self
             .poll
             .registry()
-            .register(&mut stream, ANY, Interest::READABLE);
-        let is_full = self.waiting.len() >= PLACES;
+            .register(&mut stream, number, Interest::READABLE)
+            .is_ok();
+        let is_full = self.waiting.len() >= places;
         if is_full {
-            self.waiting.remove(0);
+            self.drop_oldest();
         }
         self.waiting.push(Waiting {
             stream,
+            number,
             since: Instant::now(host).ok(),
             brought: Brought::Little,
+            is_told: true,
+            is_registered,
         })?;
         Ok(usize::from(is_full))
     }
 
     // Waits until something comes, or the pause is over.
     fn wait<R: Host>(&mut self, host: &R, patience: Patience) {
-        if self
-            .poll
-            .poll(&mut self.events, Some(patience.pause))
-            .is_err()
-        {
+        if self.hear(patience.pause).is_err() {
             thread::sleep(host, patience.pause);
         }
     }
@@ -160,6 +197,7 @@ impl Door {
 #[derive(Drop)]
 pub(crate) struct Port<'a, R> {
     host: &'a R,
+    process: &'a Process,
     number: u16,
     patience: Patience,
     door: Option<Door>,
@@ -167,14 +205,21 @@ pub(crate) struct Port<'a, R> {
 }
 
 impl<'a, R: Host> Port<'a, R> {
-    /// Nothing is bound yet.
-    pub(crate) fn new(host: &'a R, number: u16, patience: Patience) -> Port<'a, R> {
+    /// Nothing is bound yet. From now on the process has one more port.
+    pub(crate) fn new(
+        host: &'a R,
+        process: &'a Process,
+        number: u16,
+        patience: Patience,
+    ) -> Port<'a, R> {
+        process.add_port();
         Port {
             host,
+            process,
             number,
             patience,
             door: None,
-            notes: Notes::of_port(number),
+            notes: Notes::of_port(process, number),
         }
     }
 
@@ -204,8 +249,8 @@ impl<'a, R: Host> Port<'a, R> {
 
     // Binds the port where it is not bound, again after a pause where it cannot be had.
     fn bind(&mut self) {
-        for _ in 1..self.patience.calls {
-            if self.bind_once() {
+        for _ in 1..self.patience.binds {
+            if self.bind_once() || self.process.has_failed() {
                 return;
             }
             thread::sleep(self.host, self.patience.pause);
@@ -213,51 +258,86 @@ impl<'a, R: Host> Port<'a, R> {
         self.bind_once();
     }
 
+    // The link of the first connection that has brought a unit, of those that wait; none where none has.
+    fn ready(&mut self) -> Option<TcpLink<'a, R>> {
+        let door = self.door.as_mut()?;
+        // where this fails the next wait reports the same
+        let _ = door.hear(Duration::ZERO);
+        self.notes
+            .drops(self.host, door.look(self.host, self.patience));
+        let taken = door.take();
+        self.notes.waits(door.waiting.len());
+        let stream = taken?;
+        let peer = stream.peer_addr();
+        let mut link = TcpLink::new(self.host, self.process, stream.into(), self.patience).ok()?;
+        link.limit();
+        self.notes.begins(self.host, peer);
+        self.notes.write(self.host);
+        Some(link)
+    }
+
+    // A connection could not be accepted.
+    fn fails(&mut self, error: &io::Error) {
+        self.notes.fails(self.host, error);
+        if let Some(door) = &mut self.door {
+            if is_one_of(error, &SHORT) && door.drop_oldest() {
+                self.notes.drops(self.host, 1);
+                return;
+            }
+        }
+        if is_one_of(error, &LOST) {
+            self.door = None;
+        }
+        self.notes.write(self.host);
+        thread::sleep(self.host, self.patience.pause);
+    }
+
+    // Takes one more connection, or waits until there is one, or for a pause.
+    fn accept(&mut self) {
+        let Some(door) = &mut self.door else {
+            return;
+        };
+        match door.accept(self.host, self.process.places()) {
+            Ok(dropped) => self.notes.drops(self.host, dropped),
+            Err(error) if is_passing(error.kind()) => {
+                self.notes.write(self.host);
+                door.wait(self.host, self.patience);
+            }
+            Err(error) if error.kind() == ErrorKind::ConnectionAborted => {}
+            Err(error) => self.fails(&error),
+        }
+    }
+
     /// The link of the peer that calls next: of the first connection that has brought a unit. None where the port
-    /// cannot be had.
+    /// cannot be had, and once the process has failed.
     pub(crate) fn link(&mut self) -> Option<TcpLink<'a, R>> {
         self.bind();
         for _ in 0..u64::MAX {
-            let Some(door) = &mut self.door else {
+            if self.door.is_none() || self.process.has_failed() {
                 return None;
-            };
-            self.notes
-                .drops(self.host, door.look(self.host, self.patience));
-            let taken = door.take();
-            self.notes.waits(door.waiting.len());
-            if let Some(stream) = taken {
-                let peer = stream.peer_addr();
-                if let Ok(link) = TcpLink::new(self.host, stream.into(), self.patience) {
-                    self.notes.begins(self.host, peer);
-                    self.notes.write(self.host);
-                    return Some(link);
-                }
             }
-            match door.accept(self.host) {
-                Ok(dropped) => self.notes.drops(self.host, dropped),
-                Err(error) if is_passing(error.kind()) => {
-                    self.notes.write(self.host);
-                    door.wait(self.host, self.patience);
-                }
-                Err(error) if error.kind() == ErrorKind::ConnectionAborted => {}
-                Err(error) => {
-                    self.notes.fails(self.host, &error);
-                    if is_lost(&error) {
-                        self.door = None;
-                    }
-                    self.notes.write(self.host);
-                    thread::sleep(self.host, self.patience.pause);
-                }
+            if let Some(link) = self.ready() {
+                return Some(link);
             }
+            self.accept();
         }
         None
     }
+
+    /// Lets the port go, with all connections that wait. The process has one port less.
+    pub(crate) fn close(&mut self, why: CloseWhy) {
+        self.process.remove_port();
+        self.door = None;
+        self.notes.ends(self.host, why);
+        self.notes.write(self.host);
+    }
 }
 
-// Whether the socket itself is gone. Any other error is of one connection, or passes.
-fn is_lost(error: &io::Error) -> bool {
+// Whether the error has one of these numbers. An error of the numbers `LOST` says that the socket itself is gone; any
+// other is of one connection, or passes.
+fn is_one_of(error: &io::Error, codes: &[i32]) -> bool {
     match error.raw_os_error() {
-        Some(code) => LOST.contains(&code),
+        Some(code) => codes.contains(&code),
         None => false,
     }
 }

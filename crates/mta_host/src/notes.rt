@@ -1,13 +1,15 @@
 //! What a station does, as a line of a file that monitoring reads.
 //!
 //! All stations of a process share the file: line K, of `LINE` octets with its line feed, is that of station K. A
-//! station writes its line anew, by one call, where something changed. Where the file cannot be written nothing else
-//! changes.
+//! station writes its line anew, by one call, where something changed, and once more when it ends. Where the file
+//! cannot be written nothing else changes.
 
 ghost use Rattle.std.specs.Prelude.{◌≡◌};
 
 use crate::host::Host;
+use crate::process::Process;
 use arrayvec::ArrayString;
+use mta_links::CloseWhy;
 use std::fmt::Write;
 use std::fs::{File, OpenOptions, Permissions};
 use std::io;
@@ -15,10 +17,12 @@ use std::net::SocketAddr;
 use std::os::unix::fs::{FileExt, OpenOptionsExt, PermissionsExt};
 use std::time::SystemTime;
 
-// The octets of a line with its line feed, and of its text.
+// The octets of a line with its line feed, of the words at its end, and of those before them.
 const LINE: usize = 512;
 
-const TEXT: usize = LINE - 1;
+const TAIL: usize = 60;
+
+const HEAD: usize = LINE - 1 - TAIL;
 
 // The longest name of a station: a host's name has at most 253 octets.
 const NAME: usize = 300;
@@ -57,9 +61,19 @@ impl Count {
     }
 }
 
+// The word for why a station has ended.
+fn word_of(why: CloseWhy) -> &'static str {
+    match why {
+        CloseWhy::Served => "served",
+        CloseWhy::GivenUp => "given-up",
+        CloseWhy::Refused => "refused",
+    }
+}
+
 /// What a station does. Nothing is written where it has no place.
 #[derive(Drop)]
 pub(crate) struct Notes<'a> {
+    process: &'a Process,
     place: Option<Place<'a>>,
     file: Option<File>,
     name: ArrayString<NAME>,
@@ -72,6 +86,8 @@ pub(crate) struct Notes<'a> {
     code: i32,
     why: ArrayString<WHY>,
     error_at: u64,
+    ended: Option<CloseWhy>,
+    ended_at: u64,
     is_changed: bool,
 }
 
@@ -91,6 +107,11 @@ fn plain(address: SocketAddr) -> SocketAddr {
     SocketAddr::new(address.ip().to_canonical(), address.port())
 }
 
+// The octets of the lines of so many stations.
+fn octets_of(stations: u32) -> u64 {
+    u64::from(stations) * LINE as u64
+}
+
 // The file, which is made where it is absent, with room for the lines of all stations and of no more.
 fn open<R: Host>(host: &R, place: Place<'_>) -> io::Result<File> {
     let file = OpenOptions::new()
@@ -99,14 +120,15 @@ fn open<R: Host>(host: &R, place: Place<'_>) -> io::Result<File> {
         .mode(MODE)
         .open(host, place.path)?;
     file.set_permissions(Permissions::from_mode(MODE))?;
-    file.set_len(u64::from(place.stations) * LINE as u64)?;
+    file.set_len(octets_of(place.stations))?;
     Ok(file)
 }
 
 impl<'a> Notes<'a> {
     /// Of a station of this name: `in` or `out`, and where.
-    pub(crate) fn new(name: ArrayString<NAME>) -> Notes<'a> {
+    pub(crate) fn new(process: &'a Process, name: ArrayString<NAME>) -> Notes<'a> {
         Notes {
+            process,
             place: None,
             file: None,
             name,
@@ -119,20 +141,22 @@ impl<'a> Notes<'a> {
             code: 0,
             why: ArrayString::new(),
             error_at: 0,
+            ended: None,
+            ended_at: 0,
             is_changed: true,
         }
     }
 
-    pub(crate) fn of_port(port: u16) -> Notes<'a> {
+    pub(crate) fn of_port(process: &'a Process, port: u16) -> Notes<'a> {
         let mut name = ArrayString::new();
         let _ = write!(name, "in {port}");
-        Notes::new(name)
+        Notes::new(process, name)
     }
 
-    pub(crate) fn of_peer(host: &str, port: u16) -> Notes<'a> {
+    pub(crate) fn of_peer(process: &'a Process, host: &str, port: u16) -> Notes<'a> {
         let mut name = ArrayString::new();
         let _ = write!(name, "out {host}:{port}");
-        Notes::new(name)
+        Notes::new(process, name)
     }
 
     /// From now on they are written there.
@@ -178,14 +202,36 @@ impl<'a> Notes<'a> {
         self.is_changed = true;
     }
 
-    // The line's text. What does not fit is left out.
-    fn text(&self, station: u32) -> ArrayString<TEXT> {
-        let mut text = ArrayString::new();
-        let _ = self.write_text(&mut text, station);
-        text
+    /// It has ended for this reason: it listens no more, and no connection waits.
+    pub(crate) fn ends<R: Host>(&mut self, host: &R, why: CloseWhy) {
+        self.since = 0;
+        self.waiting = 0;
+        self.ended = Some(why);
+        self.ended_at = moment(host);
+        self.is_changed = true;
     }
 
-    fn write_text(&self, text: &mut ArrayString<TEXT>, station: u32) -> std::fmt::Result {
+    // The line. What does not fit before the words at its end is left out.
+    fn line(&self, station: u32) -> [u8; LINE] {
+        let mut head = ArrayString::new();
+        let _ = self.write_head(&mut head, station);
+        let mut tail = ArrayString::new();
+        let _ = self.write_tail(&mut tail);
+        let mut line = [b' '; LINE];
+        let (before, behind) = (head.len(), head.len() + tail.len());
+        line[..before].copy_from_slice(head.as_str().as_bytes());
+        line[before..behind].copy_from_slice(tail.as_str().as_bytes());
+        line[LINE - 1] = b'\n';
+        line
+    }
+
+    fn write_tail(&self, text: &mut ArrayString<TAIL>) -> std::fmt::Result {
+        let word = self.ended.map_or("-", word_of);
+        let (number, at) = (self.process.number, self.ended_at);
+        write!(text, " process {number} ended {word} at {at}")
+    }
+
+    fn write_head(&self, text: &mut ArrayString<HEAD>, station: u32) -> std::fmt::Result {
         write!(
             text,
             "station {station} {} since {}",
@@ -221,18 +267,15 @@ impl<'a> Notes<'a> {
         let Some(place) = self.place else {
             return;
         };
-        if !self.is_changed {
+        if !self.is_changed || !self.process.may_write(octets_of(place.stations)) {
             return;
         }
         if self.file.is_none() {
             self.file = open(host, place).ok();
         }
         if let Some(file) = &self.file {
-            let text = self.text(place.station);
-            let mut line = [b' '; LINE];
-            line[..text.len()].copy_from_slice(text.as_str().as_bytes());
-            line[TEXT] = b'\n';
-            let at = u64::from(place.station.saturating_sub(1)) * LINE as u64;
+            let line = self.line(place.station);
+            let at = octets_of(place.station.saturating_sub(1));
             self.is_changed = file.write_all_at(&line, at).is_err();
         }
     }

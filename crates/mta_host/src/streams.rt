@@ -4,11 +4,11 @@
 //! counts its failures. They tell nothing of what they hold. A file that could not be opened fails at
 //! every call.
 
-ghost use Rattle.std.specs.Prelude.{◌<◌, ◌≤◌, IfSome, length};
+ghost use Rattle.std.specs.Prelude.{◌<◌, ◌≤◌, IfOk, IfSome, length};
 
 use mta_edge::{Failed, Sink, Source};
 use std::fs::File;
-use std::io::{ErrorKind, Read, Write};
+use std::io::{self, ErrorKind, Read, Write};
 
 /// The tables' file or the input's stream, which are handed in as one type.
 #[derive(Drop)]
@@ -23,24 +23,24 @@ impl<S: Read + Drop> Octets<S> {
     {
         match self {
             Octets::File(None) => None,
-            Octets::File(Some(file)) => read_some(file, into),
-            Octets::Stream(stream) => read_some(stream, into),
+            Octets::File(Some(file)) => read_some(file, into).ok(),
+            Octets::Stream(stream) => read_some(stream, into).ok(),
         }
     }
 }
 
 // The count of one read. A read that a signal interrupts is made again.
-pub(crate) fn read_some<S: Read>(stream: &mut S, into: &mut [u8]) -> Option<usize>
-    ensures { IfSome result (λ n. n ≤ length into.new) }
+pub(crate) fn read_some<S: Read>(stream: &mut S, into: &mut [u8]) -> io::Result<usize>
+    ensures { IfOk result (λ n. n ≤ length into.new) }
 {
     for _ in 0..u64::MAX {
         match stream.read(into) {
-            Ok(count) => return Some(count),
+            Ok(count) => return Ok(count),
             Err(error) if error.kind() == ErrorKind::Interrupted => {}
-            Err(_) => return None,
+            Err(error) => return Err(error),
         }
     }
-    None
+    Err(ErrorKind::Interrupted.into())
 }
 
 /// Octets from a file or a stream. Every call fails where a file could not be opened.
@@ -86,18 +86,19 @@ impl<W: Write + Drop> Writing<W> {
 }
 
 // The count of one write, of at least one octet where there are any. A write that a signal interrupts is made again.
-pub(crate) fn write_some<W: Write>(writer: &mut W, bytes: &[u8]) -> Option<usize>
-    ensures bound { IfSome result (λ n. n ≤ length bytes.now) }
-    ensures some { IfSome result (λ n. 0 < length bytes.now → 0 < n) }
+pub(crate) fn write_some<W: Write>(writer: &mut W, bytes: &[u8]) -> io::Result<usize>
+    ensures bound { IfOk result (λ n. n ≤ length bytes.now) }
+    ensures some { IfOk result (λ n. 0 < length bytes.now → 0 < n) }
 {
     for _ in 0..u64::MAX {
         match writer.write(bytes) {
-            Ok(count) if count > 0 || bytes.is_empty() => return Some(count),
+            Ok(0) if !bytes.is_empty() => return Err(ErrorKind::WriteZero.into()),
+            Ok(count) => return Ok(count),
             Err(error) if error.kind() == ErrorKind::Interrupted => {}
-            _ => return None,
+            Err(error) => return Err(error),
         }
     }
-    None
+    Err(ErrorKind::Interrupted.into())
 }
 
 impl<W: Write + Drop> Sink for Writing<W> {
@@ -107,8 +108,8 @@ impl<W: Write + Drop> Sink for Writing<W> {
 
     fn put(&mut self, bytes: &[u8]) -> Result<usize, Failed> {
         match write_some(&mut self.inner, bytes) {
-            Some(count) => Ok(count),
-            None => {
+            Ok(count) => Ok(count),
+            Err(_) => {
                 self.faults = self.faults.saturating_add(1);
                 Err(Failed)
             }

@@ -8,9 +8,10 @@ use crate::host::Host;
 use crate::listening::Port;
 use crate::notes::Place;
 use crate::patience::Patience;
+use crate::process::Process;
 use crate::tcp_link::TcpLink;
 use mta_edge::Failed;
-use mta_links::{Role, Station};
+use mta_links::{CloseWhy, Role, Station};
 use std::marker::Model;
 
 // Where the connections come from.
@@ -34,6 +35,13 @@ impl<'a, R: Host> Origin<'a, R> {
         }
     }
 
+    fn close(&mut self, why: CloseWhy) {
+        match self {
+            Origin::Port(port) => port.close(why),
+            Origin::Peer(peer) => peer.close(why),
+        }
+    }
+
     fn set_place(&mut self, place: Place<'a>) {
         match self {
             Origin::Port(port) => port.notes.set_place(place),
@@ -42,10 +50,13 @@ impl<'a, R: Host> Origin<'a, R> {
     }
 }
 
-/// A station whose links are connections. Its `next` never answers that no link is left.
+/// A station whose links are connections. Its `next` never answers that no link is left. It fails where the station was
+/// closed, and once the process has failed, also while it waits.
 pub struct TcpStation<'a, R> {
+    process: &'a Process,
     role: Role,
     origin: Origin<'a, R>,
+    is_closed: bool,
     out: u64,
     faults: u64,
 }
@@ -54,8 +65,10 @@ pub struct TcpStation<'a, R> {
 impl<'a, R> Drop for TcpStation<'a, R> {
     fn drop(self) {
         let TcpStation {
+            process: _,
             role: _,
             origin: _,
+            is_closed: _,
             out: _,
             faults: _,
         } = self;
@@ -73,24 +86,34 @@ impl<'a, R> Model for TcpStation<'a, R> {
 impl<'a, R: Host> TcpStation<'a, R> {
     /// Listens on this port of all IPv6 and IPv4 addresses of the host, or on a free port for 0, from the first call
     /// of `next` on. The port can be had at once after another process that listened on it has ended. Where it cannot
-    /// be had after as many attempts as the patience says, that call fails.
-    pub fn listening(host: &'a R, port: u16, patience: Patience) -> TcpStation<'a, R>
+    /// be had after as many attempts as the patience says, that call fails. Once the station is closed the port is free,
+    /// and connections that waited there are closed.
+    pub fn listening(
+        host: &'a R,
+        process: &'a Process,
+        port: u16,
+        patience: Patience,
+    ) -> TcpStation<'a, R>
         ensures role { result.role ≡ Role.In }
         ensures out { result.out ≡ 0 }
         ensures faults { result.faults ≡ 0 }
     {
         TcpStation {
+            process,
             role: Role::In,
-            origin: Origin::Port(Port::new(host, port, patience)),
+            origin: Origin::Port(Port::new(host, process, port, patience)),
+            is_closed: false,
             out: 0,
             faults: 0,
         }
     }
 
     /// A station of this role, which calls the peer at the port of the host of this name for each link. Nothing is
-    /// called yet.
+    /// called yet. A peer that is not reached is called again: for as long as a station at a port serves in the process,
+    /// and else as many times as the patience says, after which `next` fails.
     pub fn calling(
         host: &'a R,
+        process: &'a Process,
         role: Role,
         name: String,
         port: u16,
@@ -101,8 +124,10 @@ impl<'a, R: Host> TcpStation<'a, R> {
         ensures faults { result.faults ≡ 0 }
     {
         TcpStation {
+            process,
             role,
-            origin: Origin::Peer(Peer::new(host, name, port, patience)),
+            origin: Origin::Peer(Peer::new(host, process, name, port, patience)),
+            is_closed: false,
             out: 0,
             faults: 0,
         }
@@ -137,7 +162,8 @@ impl<'a, R: Host> Station for TcpStation<'a, R> {
     }
 
     fn next(&mut self) -> Result<Option<TcpLink<'a, R>>, Failed> {
-        if self.out < u64::MAX {
+        let may_give = !self.is_closed && !self.process.has_failed();
+        if may_give && self.out < u64::MAX {
             if let Some(link) = self.origin.link() {
                 self.out += 1;
                 return Ok(Some(link));
@@ -151,5 +177,15 @@ impl<'a, R: Host> Station for TcpStation<'a, R> {
         self.origin.back(&link);
         drop(link);
         self.out -= 1;
+    }
+
+    fn close(&mut self, why: CloseWhy) {
+        if let CloseWhy::Refused = why {
+            self.process.fail();
+        }
+        if !self.is_closed {
+            self.is_closed = true;
+            self.origin.close(why);
+        }
     }
 }

@@ -1,16 +1,22 @@
 //! The adapters over real files, streams that stop and start, and the real clock.
 
 use mta_edge::{Clock, Disk, Failed, Sink, Source};
-use mta_host::{FileDisk, Octets as Stream, Reading, SystemClock, Writing, again};
+use mta_host::{FileDisk, Octets as Stream, Path, Process, Reading, SystemClock, Writing, again};
 use std::cell::Cell;
 use std::fs::{self, File};
 use std::io::{self, Empty, ErrorKind, Read, Write};
 use std::os::unix::fs::PermissionsExt;
 use std::test::Fail;
 
+/// A file in the folder in which the test runs.
+pub fn beside(path: &str) -> Path<'_> {
+    Path { folder: ".", path }
+}
+
 #[test]
 fn a_file_is_a_disk(rt: HostRuntime) -> Result<(), Fail> {
-    let mut disk = FileDisk::new(&rt, ".", "disk.try");
+    let process = Process::new(&rt, 1);
+    let mut disk = FileDisk::new(&rt, &process, beside("disk.try"));
     let mut buffer = [0u8; 4];
     assert_eq!(rt; disk.sync(), Ok(()));
     assert_eq!(rt; disk.cut(0), Ok(()));
@@ -29,14 +35,70 @@ fn a_file_is_a_disk(rt: HostRuntime) -> Result<(), Fail> {
 // No file is made before the first call, and every call fails where there is no folder for it.
 #[test]
 fn a_file_is_opened_at_the_first_call(rt: HostRuntime) -> Result<(), Fail> {
-    let mut disk = FileDisk::new(&rt, ".", "late.try");
+    let process = Process::new(&rt, 1);
+    let mut disk = FileDisk::new(&rt, &process, beside("late.try"));
     assert!(rt; File::open(&rt, "late.try").is_err());
     assert_eq!(rt; disk.size(), Ok(0));
     assert!(rt; File::open(&rt, "late.try").is_ok());
     fs::remove_file(&rt, "late.try")?;
-    let mut none = FileDisk::new(&rt, "absent.try", "absent.try/late.try");
+    let absent = Path {
+        folder: "absent.try",
+        path: "absent.try/late.try",
+    };
+    let mut none = FileDisk::new(&rt, &process, absent);
     assert_eq!(rt; none.sync(), Err(Failed));
     assert_eq!(rt; none.size(), Err(Failed));
+    Ok(())
+}
+
+// Nothing is promised any more for a file that was removed, or in whose place another one stands.
+#[test]
+fn a_file_is_removed_and_replaced(rt: HostRuntime) -> Result<(), Fail> {
+    let process = Process::new(&rt, 1);
+    let mut disk = FileDisk::new(&rt, &process, beside("gone.try"));
+    assert_eq!(rt; disk.write_at(0, b"abcd"), Ok(()));
+    assert_eq!(rt; disk.sync(), Ok(()));
+    fs::remove_file(&rt, "gone.try")?;
+    assert_eq!(rt; disk.sync(), Err(Failed));
+    let mut disk = FileDisk::new(&rt, &process, beside("gone.try"));
+    assert_eq!(rt; disk.write_at(0, b"abcd"), Ok(()));
+    fs::rename(&rt, "gone.try", "kept.try")?;
+    assert_eq!(rt; disk.sync(), Err(Failed));
+    fs::write(&rt, "gone.try", b"abcd")?;
+    assert_eq!(rt; disk.sync(), Err(Failed));
+    fs::remove_file(&rt, "gone.try")?;
+    fs::remove_file(&rt, "kept.try")?;
+    Ok(())
+}
+
+// A write at the old place would leave zeros in a file that was cut, so none is made.
+#[test]
+fn a_file_is_cut_by_somebody_else(rt: HostRuntime) -> Result<(), Fail> {
+    let process = Process::new(&rt, 1);
+    let mut disk = FileDisk::new(&rt, &process, beside("cut.try"));
+    assert_eq!(rt; disk.write_at(0, b"abcd"), Ok(()));
+    File::options()
+        .write(true)
+        .open(&rt, "cut.try")?
+        .set_len(1)?;
+    assert_eq!(rt; disk.sync(), Err(Failed));
+    assert_eq!(rt; disk.write_at(4, b"e"), Err(Failed));
+    assert_eq!(rt; disk.size(), Ok(1));
+    fs::remove_file(&rt, "cut.try")?;
+    Ok(())
+}
+
+// What is no regular file is not opened.
+#[test]
+fn a_device_is_no_disk(rt: HostRuntime) -> Result<(), Fail> {
+    let process = Process::new(&rt, 1);
+    let zeros = Path {
+        folder: "/dev",
+        path: "/dev/zero",
+    };
+    let mut disk = FileDisk::new(&rt, &process, zeros);
+    assert_eq!(rt; disk.size(), Err(Failed));
+    assert_eq!(rt; disk.read(0, &mut [0u8; 4]), Err(Failed));
     Ok(())
 }
 

@@ -6,4 +6,8 @@ mod files;
 #[cfg(test)]
 mod links;
 #[cfg(test)]
+mod pairs;
+#[cfg(test)]
 mod peers;
+#[cfg(test)]
+mod stations;

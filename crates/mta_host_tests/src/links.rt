@@ -1,8 +1,8 @@
 //! Links over the loopback. A peer is a plain connection of the test's own.
 
-use crate::peers::{UNIT, called, listening, short};
+use crate::peers::{UNIT, called, connected, link_of, listening, short};
 use mta_edge::Failed;
-use mta_host::TcpStation;
+use mta_host::{OPENING_OCTETS, Process, TcpStation};
 use mta_links::{Link, Station};
 use std::io::{Read, Write};
 use std::test::Fail;
@@ -11,7 +11,8 @@ use std::time::Duration;
 
 #[test]
 fn a_peer_gives_octet_by_octet_and_closes(rt: HostRuntime) -> Result<(), Fail> {
-    let mut station = listening(&rt);
+    let process = Process::new(&rt, 1);
+    let mut station = listening(&rt, &process);
     let (mut peer, mut link) = called(&rt, &mut station)?;
     let mut buffer = [0u8; 2];
     for octet in [1, 2, 3] {
@@ -29,7 +30,8 @@ fn a_peer_gives_octet_by_octet_and_closes(rt: HostRuntime) -> Result<(), Fail> {
 // What was put is unread when the peer goes, so the connection is reset.
 #[test]
 fn a_peer_resets(rt: HostRuntime) -> Result<(), Fail> {
-    let mut station = listening(&rt);
+    let process = Process::new(&rt, 1);
+    let mut station = listening(&rt, &process);
     let (peer, mut link) = called(&rt, &mut station)?;
     assert_eq!(rt; link.put(&[7; 16]), Ok(16));
     drop(peer);
@@ -40,7 +42,8 @@ fn a_peer_resets(rt: HostRuntime) -> Result<(), Fail> {
 
 #[test]
 fn a_peer_gives_nothing(rt: HostRuntime) -> Result<(), Fail> {
-    let mut station = listening(&rt);
+    let process = Process::new(&rt, 1);
+    let mut station = listening(&rt, &process);
     let (_peer, mut link) = called(&rt, &mut station)?;
     assert_eq!(rt; link.get(&mut [0u8; 1]), Err(Failed));
     Ok(())
@@ -51,7 +54,8 @@ fn a_peer_gives_nothing(rt: HostRuntime) -> Result<(), Fail> {
 fn a_peer_gives_short_units_slowly(rt: HostRuntime) -> Result<(), Fail> {
     let mut patience = short();
     patience.silence = Duration::from_millis(200);
-    let mut station = TcpStation::listening(&rt, 0, patience);
+    let process = Process::new(&rt, 1);
+    let mut station = TcpStation::listening(&rt, &process, 0, patience);
     let (mut peer, mut link) = called(&rt, &mut station)?;
     let mut buffer = [0u8; 16];
     for _ in 0..8 {
@@ -69,7 +73,8 @@ fn a_peer_gives_short_units_slowly(rt: HostRuntime) -> Result<(), Fail> {
 fn a_peer_gives_a_long_unit_fast_enough(rt: HostRuntime) -> Result<(), Fail> {
     let mut patience = short();
     patience.silence = Duration::from_millis(200);
-    let mut station = TcpStation::listening(&rt, 0, patience);
+    let process = Process::new(&rt, 1);
+    let mut station = TcpStation::listening(&rt, &process, 0, patience);
     let (mut peer, mut link) = called(&rt, &mut station)?;
     peer.write_all(&[0, 1, 0, 0, 5])?;
     let mut buffer = [0u8; 4096];
@@ -82,10 +87,50 @@ fn a_peer_gives_a_long_unit_fast_enough(rt: HostRuntime) -> Result<(), Fail> {
     Ok(())
 }
 
+// A peer that gives an octet each 20 milliseconds of a unit that never ends has no more than the time in which the
+// agent is to put its first unit.
+#[test]
+fn a_peer_drips_before_it_is_admitted(rt: HostRuntime) -> Result<(), Fail> {
+    let mut patience = short();
+    patience.silence = Duration::from_secs(60);
+    patience.admission = Duration::from_millis(200);
+    let process = Process::new(&rt, 1);
+    let mut station = TcpStation::listening(&rt, &process, 0, patience);
+    let mut peer = connected(&rt, &mut station)?;
+    peer.write_all(&[0, 31, 255, 255])?;
+    peer.write_all(&[7; OPENING_OCTETS])?;
+    let mut link = link_of(&mut station)?;
+    for _ in 0..3000 {
+        if link.get(&mut [0u8; 16_384]).is_err() {
+            return Ok(());
+        }
+        peer.write_all(&[7])?;
+        thread::sleep(&rt, Duration::from_millis(20));
+    }
+    Err("a minute was not enough".into())
+}
+
+// Once the agent has put octets the peer has the whole silence again.
+#[test]
+fn a_peer_is_slow_once_it_is_admitted(rt: HostRuntime) -> Result<(), Fail> {
+    let mut patience = short();
+    patience.silence = Duration::from_secs(60);
+    patience.admission = Duration::from_secs(2);
+    let process = Process::new(&rt, 1);
+    let mut station = TcpStation::listening(&rt, &process, 0, patience);
+    let (mut peer, mut link) = called(&rt, &mut station)?;
+    assert_eq!(rt; link.put(&[7]), Ok(1));
+    thread::sleep(&rt, Duration::from_millis(2500));
+    peer.write_all(&[9])?;
+    assert_eq!(rt; link.get(&mut [0u8; 1]), Ok(1));
+    Ok(())
+}
+
 // The link takes what the system keeps for the connection, and then fails.
 #[test]
 fn a_peer_takes_nothing(rt: HostRuntime) -> Result<(), Fail> {
-    let mut station = listening(&rt);
+    let process = Process::new(&rt, 1);
+    let mut station = listening(&rt, &process);
     let (_peer, mut link) = called(&rt, &mut station)?;
     let piece = [7u8; 65_536];
     for _ in 0..1000 {
@@ -98,7 +143,8 @@ fn a_peer_takes_nothing(rt: HostRuntime) -> Result<(), Fail> {
 
 #[test]
 fn a_long_piece_is_taken_by_one_call(rt: HostRuntime) -> Result<(), Fail> {
-    let mut station = listening(&rt);
+    let process = Process::new(&rt, 1);
+    let mut station = listening(&rt, &process);
     let (mut peer, mut link) = called(&rt, &mut station)?;
     assert_eq!(rt; link.put(&[7; 65_536]), Ok(65_536));
     drop(link);

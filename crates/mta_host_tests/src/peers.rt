@@ -1,6 +1,6 @@
 //! What the tests of links and stations share: a short patience, a unit, and peers.
 
-use mta_host::{Host, Patience, TcpLink, TcpStation};
+use mta_host::{Host, Patience, Process, TcpLink, TcpStation};
 use mta_links::{Link, Station};
 use std::io::{self, Read, Write};
 use std::net::TcpStream;
@@ -17,16 +17,18 @@ pub fn short() -> Patience {
     Patience {
         silence: Duration::from_millis(100),
         opening: Duration::from_millis(1000),
+        admission: Duration::from_secs(60),
         answer: Duration::from_millis(1000),
         pause: Duration::from_millis(5),
         longest_pause: Duration::from_millis(40),
+        binds: 3,
         calls: 3,
     }
 }
 
 /// A station at a free port.
-pub fn listening<R: Host>(host: &R) -> TcpStation<'_, R> {
-    TcpStation::listening(host, 0, short())
+pub fn listening<'a, R: Host>(host: &'a R, process: &'a Process) -> TcpStation<'a, R> {
+    TcpStation::listening(host, process, 0, short())
 }
 
 pub fn port_of<R: Host>(station: &mut TcpStation<'_, R>) -> Result<u16, Fail> {

@@ -1,11 +1,11 @@
 //! `mta_rehearse`, where the messages for an O/R name would go through the tables of several agents: the process.
 //!
-//! `main` reads the words, opens `mta.tables` in the folder in which it is called and standard output, and hands them
-//! to `rehearse_run`; it ends with the status that this answers. It opens no spool. Words that are not UTF-8 are told
+//! `main` makes sure that the descriptors of the standard streams are taken, reads the words, opens `mta.tables` in the
+//! folder in which it is called, and hands them to `rehearse_run`; it ends with the status that this answers. It opens no spool. Words that are not UTF-8 are told
 //! the usage line. A file that cannot be opened fails at every call, so it is told as a source fault.
 #![tactic(auto)]
 
-use mta_host::{Octets, Reading, Writing};
+use mta_host::{NO_STREAMS, Octets, Reading, Streams, Writing};
 use mta_rehearse_run::{Stop, rehearse_run, tell};
 use std::fs::File;
 use std::process::ExitCode;
@@ -34,6 +34,9 @@ fn conf_of(rt: &HostRuntime) -> Reading<File> {
 }
 
 fn main(rt: HostRuntime) -> ExitCode {
+    let Ok(_streams) = Streams::taken(&rt) else {
+        return ExitCode::from(NO_STREAMS);
+    };
     let mut out = Writing::new(io::writer(&rt));
     let status = match arguments(&rt) {
         Ok(words) => rehearse_run(rt.alloc(), &words, &mut conf_of(&rt), &mut out),
