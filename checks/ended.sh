@@ -6,7 +6,7 @@
 set -u
 cd "$(dirname "$0")/.." || exit 2
 . checks/program.bash
-program python3 cc
+program python3 cc prlimit
 cc -Wall -Wextra -O1 -shared -fPIC -o "$made/disks.so" checks/disks.c -ldl || exit 1
 # a disk that gets full is mounted in a namespace of its own
 under=(unshare --mount)

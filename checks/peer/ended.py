@@ -46,9 +46,9 @@ def until(what, why, seconds=SOON):
 class Served:
     """An agent that serves at these ports, and a true peer of it."""
 
-    def __init__(self, mta, folder, sessions, ports, others=(), env=None):
+    def __init__(self, mta, folder, sessions, ports, others=(), env=None, under=()):
         self.agent, self.silver, self.ports = Agent(mta, folder, GOLD), Silver(), ports
-        under = ["env", *(f"{name}={value}" for name, value in (env or {}).items())]
+        under = [*under, "env", *(f"{name}={value}" for name, value in (env or {}).items())]
         self.agent.serve(str(sessions), *(f"in:{it}" for it in ports), *others, under=under)
 
     def session(self, port, size=None):
@@ -155,6 +155,24 @@ def sync_fails_beside(mta, library, folder):
     return "the same while another station has a session in which its peer is silent"
 
 
+def fill(served):
+    """Brings messages until there is no more room: the process ends."""
+    for _ in range(2 * ROOM // SIZE):
+        if served.session(served.ports[0], SIZE) != "closed":
+            break
+    else:
+        raise Wrong("the disk does not get full")
+    served.ends(r"station 1 sessions \d+ closed \d+\nstation 2 sessions 0 closed 0\ndisk fault\n")
+
+
+def limited(mta, folder):
+    """A file may have no more octets than so many."""
+    served = Served(mta, folder, 1000, (free_port(), free_port()), under=["prlimit", f"--fsize={ROOM}"])
+    fill(served)
+    goes_on(served)
+    return "a limit of a file's length: the same, and no signal ends it"
+
+
 def full(mta, folder):
     """The disk gets full while a peer brings messages."""
     place = f"{folder}.disk"
@@ -164,12 +182,7 @@ def full(mta, folder):
         return "left out: no disk can be mounted here"
     ports = free_port(), free_port()
     served = Served(mta, f"{place}/gold", 1000, ports)
-    for _ in range(2 * ROOM // SIZE):
-        if served.session(ports[0], SIZE) != "closed":
-            break
-    else:
-        raise Wrong("the disk does not get full")
-    served.ends(r"station 1 sessions \d+ closed \d+\nstation 2 sessions 0 closed 0\ndisk fault\n")
+    fill(served)
     roomy = Agent(mta, folder, GOLD)
     shutil.copy(f"{place}/gold/mta.spool", folder)
     served.agent = roomy
@@ -217,8 +230,9 @@ def used_up(mta, folder):
 
 def main():
     mta, library, folder = sys.argv[1:]
-    ways = {"sync": functools.partial(sync_fails, mta, library), "beside": functools.partial(sync_fails_beside, mta,
-            library), "full": functools.partial(full, mta), "served": functools.partial(has_served, mta),
+    ways = {"sync": functools.partial(sync_fails, mta, library),
+            "beside": functools.partial(sync_fails_beside, mta, library), "full": functools.partial(full, mta),
+            "limited": functools.partial(limited, mta), "served": functools.partial(has_served, mta),
             "used-up": functools.partial(used_up, mta)}
     said = {}
 
