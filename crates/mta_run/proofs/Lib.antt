@@ -6,7 +6,6 @@ pub mod SpoolServed
 pub mod ServedWorkers
 pub mod ServedAll
 pub mod OtherPeers
-pub mod Beginning
 pub mod Commanded
 pub mod Drilled
 pub mod EndsAsMany

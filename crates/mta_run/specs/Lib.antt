@@ -3,4 +3,3 @@ pub mod Drilling
 pub mod Served
 pub mod Ran
 pub mod Runs
-pub mod Begun
