@@ -588,5 +588,5 @@ both_begin before count n first second s x y b drill first_works second_works be
         breaks_are = refl;
       };
       calling = starts_so s x b calls.0 (called-start called.ready x called.caller);
-      listening = starts_so second y b second_works listens.4;
+      listening = starts_so second y b second_works listens.3;
     }
