@@ -3,7 +3,8 @@
  * FAULT_CALL is the number of that call, from 1, among the sizes, reads, writes, cuts and syncs of the file. FAULT_HOW
  * says what it does: `fails` (EIO), `full` (ENOSPC), `half` (a write puts half of its octets, and the call behind it
  * fails), or a number, the octets to which the file is cut before the call is made. FAULT_TOLD is a file that says
- * how many calls there were so far. */
+ * how many calls there were so far. FAULT_SYNC is the path of a file: the first sync once it is there fails (EIO), and
+ * takes it away. */
 #define _GNU_SOURCE
 #include <dlfcn.h>
 #include <errno.h>
@@ -100,10 +101,19 @@ ssize_t pread64(int file, void *octets, size_t count, off64_t at)
     return fails(file, 0) < 0 ? -1 : real(file, octets, count, at);
 }
 
+/* Whether this sync of the file was asked to fail. */
+static int is_asked(int file)
+{
+    const char *path = getenv("FAULT_SYNC");
+    if (!path || !is_spool(file) || unlink(path) != 0) return 0;
+    errno = EIO;
+    return 1;
+}
+
 int fdatasync(int file)
 {
     REAL(fdatasync);
-    return fails(file, 0) < 0 ? -1 : real(file);
+    return is_asked(file) || fails(file, 0) < 0 ? -1 : real(file);
 }
 
 int fsync(int file)

@@ -19,7 +19,7 @@ if command -v systemd-analyze >/dev/null; then
   place=$2/prefix
   contrib/install.sh --program "$mta" "$place" >/dev/null || fails "a prefix of its own: status $?"
   units=$place/lib/systemd/system
-  said=$(MANPATH=$place/share/man: systemd-analyze verify --man=yes "$units"/mta{@,-failed@,-standby@}.service \
+  said=$(MANPATH=$place/share/man: systemd-analyze verify --man=yes "$units"/mta{@,-failed@,-again@,-standby@}.service \
     "$units"/mta-{call,watch,follow}@.timer 2>&1) || said="status $?: $said"
   [ -z "$said" ] || fails "systemd-analyze verify: $said"
   for unit in mta@GOLD mta-call@GOLD mta-watch@GOLD mta-failed@mta@GOLD.service mta-follow@GOLD mta-standby@GOLD; do
@@ -27,12 +27,24 @@ if command -v systemd-analyze >/dev/null; then
     systemd-analyze security --offline=true --threshold=20 --root="$root" "$unit.service" >/dev/null 2>&1 ||
       fails "systemd-analyze security: $unit is exposed"
   done
+  # root begins units, with nothing else that root may
+  systemd-analyze security --offline=true --threshold=30 --root="$root" mta-again@GOLD.service >/dev/null 2>&1 ||
+    fails "systemd-analyze security: mta-again@GOLD is exposed"
   echo "the units are in order"
 else
   echo "skipped: systemd-analyze is not on the PATH"
 fi
-[ "$(EXIT_CODE=exited EXIT_STATUS=5 sh contrib/systemd/mta-why | wc -l)" -eq 2 ] || fails "mta-why says nothing of 5"
-[ -z "$(EXIT_CODE=exited EXIT_STATUS=0 sh contrib/systemd/mta-why)" ] || fails "mta-why says something of 0"
+# what mta-why says, and whether it leaves mta.failed
+for row in 0,,0,no 4,,2,yes 5,,2,no 15,,2,no 124,timer,0,no 4,timer,2,yes 1,timer,2,no 15,standby,0,no 4,standby,2,yes \
+  16,standby,2,no 1,follow,2,no 4,follow,2,yes 15,follow,0,no; do
+  IFS=, read -r status word lines makes <<<"$row"
+  mkdir "$2/why"
+  said=$(top=$PWD && cd "$2/why" && EXIT_CODE=exited EXIT_STATUS=$status sh "$top/contrib/systemd/mta-why" $word | wc -l)
+  made=no
+  [ ! -e "$2/why/mta.failed" ] || made=yes
+  [ "$said $made" = "$lines $makes" ] || fails "mta-why $word of $status: $said lines, mta.failed: $made"
+  rm -r "$2/why"
+done
 if command -v bash >/dev/null; then
   # what is left to type of a line, whose words bash cuts at colons
   completed() {

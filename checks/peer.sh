@@ -20,11 +20,11 @@
 #              break and their spools are compacted: each message ends in its mailbox once, and what a compacted spool
 #              has is bounded
 #   floods [--program FILE] [--seconds N] [NAME..]
-#              silent, slow, empty and random connections, a port in use, a limit of open files, a peer that closes at
-#              once, and sixteen stations of which fifteen have a hostile peer, against `mta serve`: true peers are
-#              served all the same, and nothing is lost. The floods of these names, or all, which takes eight and a
-#              half minutes; but `within`, which takes ten more, is run by its name alone. `sixteen` goes on for N
-#              seconds (40)
+#              silent, slow, empty and random connections, one that announces much, more of them than files may be
+#              opened, a port in use, a limit of open files, a peer that closes at once, and sixteen stations of which
+#              fifteen have a hostile peer, against `mta serve`: true peers are served all the same, and nothing is
+#              lost. The floods of these names, or all, which takes seven and a half minutes; but `within`, which takes
+#              ten more, is run by its name alone. `sixteen` goes on for N seconds (40)
 #   disks [N]  `mta submit` and `mta serve` over a file whose calls fail, that is full, read-only or cut, at N places of
 #              each fault (12): the status is that of the disk, nothing that was acknowledged is lost, and with a file
 #              that is well it goes on

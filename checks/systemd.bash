@@ -1,6 +1,6 @@
 # For checks/systemd.sh, with mta, made and top in the environment: `systemd.bash boot` starts a systemd in the
 # namespaces in which it runs. That one starts `systemd.bash steps`, which writes what it finds into $made/said.
-# shellcheck shell=bash disable=SC2154
+# shellcheck shell=bash disable=SC2154,SC2016
 set -u
 export PATH=/usr/local/bin:/usr/bin:/bin:/usr/sbin:/sbin
 mine=/run/mta-units # the units that the check needs itself
@@ -103,7 +103,11 @@ steps() {
   watched
   called
   again
+  daily
+  half
   stays_down
+  full
+  disk
   stopped
   [ "$wrong" -eq 0 ] && echo "the units do what they have to"
 }
@@ -150,30 +154,123 @@ again() {
     fails "GOLD is not begun again after SIGKILL"
 }
 
-# after a bad line of the tables, and where the spool is full, it stays down, says why, and mta-failed@ is started
-stays_down() {
-  local status
-  agent BAD /dev/null "STATIONS=in:10003"
-  agent FULL "$top/contrib/sample/GOLD/mta.tables" "STATIONS=in:10004"
-  mkdir -p /etc/systemd/system/mta@FULL.service.d
-  printf '[Service]\nExecStart=\nExecStart=/bin/sh -c "echo spool full 268435451 22; exit 5"\n' \
-    >/etc/systemd/system/mta@FULL.service.d/status.conf
+# `instead NAME COMMAND`: the agent's unit runs this command in place of its program
+instead() {
+  mkdir -p "/etc/systemd/system/mta@$1.service.d"
+  printf '[Service]\nExecStart=\nExecStart=/bin/sh -c "%s"\n' "$2" >"/etc/systemd/system/mta@$1.service.d/instead.conf"
   systemctl daemon-reload
-  for it in BAD,2,"tables line 1 Missing" FULL,5,"spool full 268435451 22"; do
-    IFS=, read -r name status line <<<"$it"
-    systemctl start "mta@$name"
-    until_so 10 is "mta@$name" ActiveState failed || fails "$name is $(shows "mta@$name" ActiveState)"
-    sleep 6 # it would be begun again after 5 seconds
-    is "mta@$name" NRestarts 0 || fails "$name was begun again"
-    is "mta@$name" ActiveState failed || fails "$name was begun again"
-    for text in "$line" "status $status: " "it is not begun again by itself"; do
-      journal_has "mta@$name" "$text" || fails "the journal of $name has no '$text'"
-    done
-    until_so 10 is "mta-failed@mta@$name.service.service" ExecMainStatus 0
-    journalctl --sync
-    journalctl -t mta -p crit -o cat --no-pager | grep -qF "mta@$name.service has failed" ||
-      fails "no line says that $name has failed"
+}
+
+# `has_failed NAME STATUS TEXT..`: the agent's unit has failed with this status, its journal has these texts, and
+# mta-failed@ was started
+has_failed() {
+  local name=$1 text
+  until_so 20 is "mta@$name" ActiveState failed || fails "$name is $(shows "mta@$name" ActiveState)"
+  is "mta@$name" ExecMainStatus "$2" || fails "$name has status $(shows "mta@$name" ExecMainStatus)"
+  shift
+  for text in "status $1: " "${@:2}"; do
+    journal_has "mta@$name" "$text" || fails "the journal of $name has no '$text'"
   done
+  until_so 10 is "mta-failed@mta@$name.service.service" ExecMainStatus 0
+  journalctl --sync
+  journalctl -t mta -p crit -o cat --no-pager | grep -qF "mta@$name.service has failed" ||
+    fails "no line says that $name has failed"
+}
+
+# after a bad line of the tables it stays down, says why, and mta-failed@ is started
+stays_down() {
+  agent BAD /dev/null "STATIONS=in:10003"
+  systemctl start mta@BAD
+  has_failed BAD 2 "tables line 1 Missing" "it is not begun again by itself"
+  sleep 6 # it would be begun again after 5 seconds
+  is mta@BAD NRestarts 0 || fails "BAD was begun again"
+  is mta@BAD ActiveState failed || fails "BAD was begun again"
+}
+
+# where the spool is full it is begun anew once, and then stays down
+full() {
+  agent FULL "$top/contrib/sample/GOLD/mta.tables" "STATIONS=in:10004"
+  instead FULL "echo >>begun; echo spool full 268435451 22; exit 5"
+  systemctl start mta@FULL
+  until_so 20 is_begun FULL 2 || fails "FULL is not begun anew"
+  has_failed FULL 5 "spool full 268435451 22"
+  journal_has mta-again@FULL "an opening may make room" || fails "nothing says that FULL is begun anew"
+  sleep 6
+  is_begun FULL 2 || fails "FULL was begun $(wc -l <"/var/lib/mta/FULL/begun") times"
+}
+is_begun() { [ "$(wc -l <"/var/lib/mta/$1/begun")" -eq "$2" ]; }
+
+# after a fault of the disk nothing begins it again, neither its unit nor one that calls, until mta.failed is removed
+disk() {
+  local it
+  agent DISK "$top/contrib/sample/GOLD/mta.tables" "STATIONS=in:10006"
+  instead DISK "echo >>begun; echo disk fault; exit 4"
+  systemctl start mta@DISK
+  has_failed DISK 4 "disk fault" "nothing begins it again while /var/lib/mta/DISK/mta.failed is there"
+  [ "$(stat -c '%U %a' /var/lib/mta/DISK/mta.failed)" = "mta 600" ] || fails "mta.failed is $(ls -l /var/lib/mta/DISK)"
+  for it in mta@DISK mta-call@DISK mta-standby@DISK mta-follow@DISK; do
+    systemctl start "$it" 2>/dev/null
+    is "$it" ConditionResult no || fails "$it begins though mta.failed is there"
+  done
+  is_begun DISK 1 || fails "DISK was begun again"
+  systemctl start mta-watch@DISK 2>/dev/null && fails "mta-watch@DISK is well"
+  journal_has mta-watch@DISK "mta.failed is there" || fails "mta-watch@DISK says nothing of mta.failed"
+  # SILVER's calls stop too
+  instead_calls SILVER "exit 4"
+  systemctl start mta-call@SILVER 2>/dev/null
+  [ -e /var/lib/mta/SILVER/mta.failed ] || fails "a call that ends with status 4 leaves no mta.failed"
+  systemctl start mta-call@SILVER 2>/dev/null
+  is mta-call@SILVER ConditionResult no || fails "SILVER calls though mta.failed is there"
+  rm /var/lib/mta/DISK/mta.failed
+  rm /etc/systemd/system/mta@DISK.service.d/instead.conf
+  systemctl daemon-reload
+  systemctl start mta@DISK
+  until_so 20 test -s /var/lib/mta/DISK/mta.stations || fails "DISK does not serve once mta.failed is removed"
+  systemctl stop mta@DISK
+}
+instead_calls() {
+  mkdir -p "/etc/systemd/system/mta-call@$1.service.d"
+  printf '[Service]\nExecStart=\nExecStart=/bin/sh -c "%s"\n' "$2" \
+    >"/etc/systemd/system/mta-call@$1.service.d/instead.conf"
+  systemctl daemon-reload
+}
+
+# once a day it is begun anew, which is no failure
+daily() {
+  is mta@GOLD RuntimeMaxUSec 1d || fails "GOLD may run for $(shows mta@GOLD RuntimeMaxUSec)"
+  agent DAILY "$top/contrib/sample/GOLD/mta.tables" "STATIONS=in:10007"
+  mkdir -p /etc/systemd/system/mta@DAILY.service.d
+  printf '[Service]\nRuntimeMaxSec=3\n' >/etc/systemd/system/mta@DAILY.service.d/short.conf
+  systemctl daemon-reload
+  systemctl start mta@DAILY
+  until_so 30 sh -c '[ "$(systemctl show -P NRestarts mta@DAILY)" -ge 1 ]' || fails "DAILY is not begun anew"
+  systemctl is-failed mta@DAILY >/dev/null && fails "DAILY has failed"
+  systemctl stop mta@DAILY
+  systemctl is-active mta-failed@mta@DAILY.service.service >/dev/null && fails "a day's end is told as a failure"
+  [ ! -e /var/lib/mta/DAILY/mta.failed ] || fails "a day's end leaves mta.failed"
+}
+
+# where one of two stations has ended the watching unit says so, and the agent is begun anew
+half() {
+  local first
+  agent HALF "$top/contrib/sample/GOLD/mta.tables" "STATIONS=in:10008 in:10009"
+  mkdir -p /etc/systemd/system/mta@HALF.service.d
+  printf '[Service]\nExecStart=\nExecStart=/usr/local/bin/mta serve 1 $STATIONS\n' \
+    >/etc/systemd/system/mta@HALF.service.d/few.conf
+  systemctl daemon-reload
+  systemctl start mta@HALF
+  first=$(shows mta@HALF MainPID)
+  until_so 20 bash -c 'printf "\xff\xff\xff\xff" >/dev/tcp/127.0.0.1/10008' || fails "HALF does not listen"
+  until_so 20 grep -q "process $first ended served" /var/lib/mta/HALF/mta.stations ||
+    fails "no station of HALF has ended: $(cat /var/lib/mta/HALF/mta.stations)"
+  is mta@HALF MainPID "$first" || fails "HALF has ended with one station"
+  systemctl start mta-watch@HALF 2>/dev/null && fails "mta-watch@HALF is well"
+  journal_has mta-watch@HALF "station 1 in 10008 has ended" || fails "mta-watch@HALF says nothing"
+  until_so 20 sh -c "systemctl is-active mta@HALF && [ \"\$(systemctl show -P MainPID mta@HALF)\" != $first ]" ||
+    fails "HALF is not begun anew"
+  journal_has mta-again@HALF "has had all its sessions" || fails "nothing says that HALF is begun anew"
+  until_so 20 systemctl start mta-watch@HALF || fails "mta-watch@HALF: $(journalctl -u mta-watch@HALF -o cat)"
+  systemctl stop mta@HALF
 }
 
 # a stop is no failure

@@ -23,7 +23,7 @@ case $prefix in /*) ;; *) echo "install.sh: PREFIX is a path from the root, and 
 root=${DESTDIR:-}$prefix
 share=$prefix/share/mta
 units="mta@.service mta-call@.service mta-call@.timer mta-watch@.service mta-watch@.timer mta-failed@.service
-  mta-follow@.service mta-follow@.timer mta-standby@.service"
+  mta-again@.service mta-follow@.service mta-follow@.timer mta-standby@.service"
 # the tools as commands, each with its file
 tools="mta-log=mta-log mta-look=mta-look mta-apdu=mta-apdu mta-content=mta-content mta-ipm=mta-ipm check-mta=check-mta
   mta-message=message.py mta-fetch=fetch.py mta-tables-check=tables-check.py mta-submit=submit.sh
@@ -59,7 +59,7 @@ put bin/mta_follow "$follow" 755
 put bin/mta_store "$store" 755
 for tool in $tools; do put "share/mta/${tool#*=}" "$top/contrib/${tool#*=}" 755; done
 for file in "$top"/contrib/lib/*.py; do put "share/mta/lib/$(basename "$file")" "$file"; done
-put share/mta/mta-why "$top/contrib/systemd/mta-why" 755
+for name in mta-why mta-again; do put "share/mta/$name" "$top/contrib/systemd/$name" 755; done
 for tool in $tools; do
   ln -sf "../share/mta/${tool#*=}" "$root/bin/${tool%%=*}"
   mkdir -p "$root/share/man/man1"

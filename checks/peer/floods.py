@@ -5,7 +5,6 @@ floods.py [--seconds N] MTA FOLDER [NAME..]: N is how long the flood `sixteen` g
 """
 import functools
 import os
-import re
 import resource
 import select
 import signal
@@ -26,7 +25,8 @@ from real import OURS, TABLES, THEIRS, Silver, values
 from record import Record
 from responder import Responder
 from together import all_at_once
-from units import PROTOCOL, Abort, Start, write
+from units import LONGEST, PROTOCOL, Abort, Start, write
+from watched import stations
 
 FLOODS = {}
 BY_NAME = {}  # those that are run only where they are named
@@ -34,11 +34,16 @@ PLACES = 64  # connections that wait at a station before they have brought a uni
 OPENING = 60  # seconds until one of them is dropped
 MUCH = 8192  # octets of a first unit that are as good as all of it
 SILENCE = 600  # seconds in which a link has to give something
-LINE = 512  # octets of a line of mta.stations
 WATCHED = 7  # minutes for which a peer that closes at once is watched
 CALM = 5  # minutes after which it is called fewer than three times in each
 SECONDS = 40  # of the flood of sixteen stations
-ALONE = ("silent-beside", "sixteen")  # they compare times
+ALONE = ("silent-beside", "short-of-files", "sixteen")  # they compare times
+QUIET = ("balancer",)  # it costs nothing, and takes long
+STATIONS = 16  # the most of a process
+FILES = 1024  # the files that a process may mostly open
+CROWDED = 70  # silent connections at each of sixteen stations, and one more each second
+HURRIES = 2  # seconds in which a bind is quick enough, however busy the machine is
+DRIP = 2  # octets a second
 
 
 def flood(does):
@@ -49,25 +54,6 @@ def flood(does):
 def long_flood(does):
     BY_NAME[does.__name__.replace("_", "-")] = does
     return does
-
-
-def stations(agent):
-    """The lines of mta.stations, each as its words up to the error's text by their names."""
-    found = []
-    with open(f"{agent.folder}/mta.stations") as file:
-        if os.fstat(file.fileno()).st_mode & 0o777 != 0o600:
-            raise Wrong("others may read mta.stations")
-        for line in file:
-            if len(line) != LINE:
-                raise Wrong(f"a line of {len(line)} octets: {line!r}")
-            words = re.fullmatch(r"station (\d+) (in|out) (\S+) since (\d+) waiting (\d+) dropped (\d+) at (\d+) "
-                                 r"sessions (\d+) at (\d+) peer (\S+) at (\d+) error (\d+) at (\d+) .*\n", line)
-            if not words:
-                raise Wrong(f"no line of a station: {line!r}")
-            names = ("station", "way", "place", "since", "waiting", "dropped", "dropped_at", "sessions", "sessions_at",
-                     "peer", "peer_at", "error", "error_at")
-            found.append(dict(zip(names, words.groups())))
-    return found
 
 
 def until(what, seconds, why):
@@ -84,9 +70,9 @@ def until(what, seconds, why):
     raise Wrong(f"not within {seconds} seconds: {why}")
 
 
-def served(mta, folder, *words):
+def served(mta, folder, *words, under=()):
     agent = Agent(mta, folder, TABLES.format(mode="twa"))
-    agent.serve(*words)
+    agent.serve(*words, under=under)
     return agent
 
 
@@ -127,6 +113,81 @@ def silent_beside(mta, folder):
           flush=True)
     if after > 1.5 * before:
         raise Wrong("more than 1.5 times as long")
+
+
+def bind_times(silver, ports):
+    """The seconds that a bind takes at each of these ports, in turn, up to one that takes too long."""
+    took = []
+    for port in ports:
+        took.append(bind_time(silver, connect(port)))
+        if took[-1] > OPENING / 2:
+            raise Wrong(f"a bind takes {took[-1]:.0f} s")
+        time.sleep(0.5)
+    return took
+
+
+def crowds(ports, kept, is_over):
+    """One more silent connection at each port, once a second, until it is over."""
+    while not is_over.wait(1):
+        kept += [connect(it) for it in ports]
+
+
+@flood
+def short_of_files(mta, folder):
+    """1,120 silent connections at sixteen stations, and sixteen more a second, where 1,024 files may be opened: a true
+    peer's bind takes at most 1.5 times as long as alone, in the median."""
+    most = resource.getrlimit(resource.RLIMIT_NOFILE)[1]
+    if most < 4 * FILES:
+        print("left out: so many connections cannot be opened here", flush=True)
+        return
+    resource.setrlimit(resource.RLIMIT_NOFILE, (most, most))
+    ports, silver, kept, is_over = [free_port() for _ in range(STATIONS)], Silver(), [], threading.Event()
+    agent = served(mta, folder, "1000000", *(f"in:{it}" for it in ports),
+                   under=["sh", "-c", f'ulimit -n {FILES} && exec "$@"', "limited"])
+    alone = [bind_time(silver, connect(port)) for port in ports for _ in range(2)]
+    kept += [connect(port) for port in ports for _ in range(CROWDED)]
+    crowding = threading.Thread(target=crowds, args=(ports, kept, is_over))
+    crowding.start()
+    try:
+        beside = bind_times(silver, [*ports, *ports])
+    finally:
+        is_over.set()
+        crowding.join()
+    agent.kill()
+    for it in kept:
+        it.close()
+    before, after = statistics.median(alone), statistics.median(beside)
+    print(f"{len(kept)} silent connections at sixteen stations of {FILES} files: a bind takes {after * 1000:.1f} ms, "
+          f"and {before * 1000:.1f} ms alone; {max(beside):.1f} s at most", flush=True)
+    if after > max(1.5 * before, HURRIES):
+        raise Wrong("more than 1.5 times as long")
+
+
+@flood
+def announced(mta, folder):
+    """A first unit of the greatest length, of which 9,000 octets come at once and then two a second: the station is
+    held for a minute, and no longer."""
+    port, silver = free_port(), Silver()
+    agent = served(mta, folder, "1000000", f"in:{port}")
+    start, drip = time.monotonic(), connect(port)
+    drip.sendall(LONGEST.to_bytes(4, "big") + b"\1" + bytes(MUCH + 800))
+    until(lambda: stations(agent)[0]["sessions"] == "1", 10, "it is a session")
+    true = threading.Thread(target=silver.session, args=(Initiator, connect(port), values("twa")))
+    true.start()
+    ended = None
+    while true.is_alive():
+        try:
+            if not ended:
+                drip.sendall(bytes(DRIP))
+        except OSError:
+            ended = time.monotonic() - start
+        true.join(1)
+    took = time.monotonic() - start
+    agent.kill()
+    print(f"2,097,157 octets are announced and two a second come: the connection ends after {ended or took:.0f} s, and "
+          f"a true peer has been served after {took:.0f} s", flush=True)
+    if not Record(silver.store).state.lanes[0].agreed or took > OPENING * 9 / 8 + 10:
+        raise silver.wrong("a true peer is not served")
 
 
 @flood
@@ -441,9 +502,13 @@ def main():
     names = names or list(FLOODS)
     jobs = [(name, functools.partial(floods[name], mta, f"{folder}/{name}")) for name in names]
     wrong = []
-    for one in ALONE:
-        wrong += all_at_once(job for job in jobs if job[0] == one)
-    wrong += all_at_once(job for job in jobs if job[0] not in ALONE)
+
+    def but_quiet():
+        for one in ALONE:
+            wrong.extend(all_at_once(job for job in jobs if job[0] == one))
+        wrong.extend(all_at_once(job for job in jobs if job[0] not in ALONE + QUIET))
+
+    wrong += all_at_once([*(job for job in jobs if job[0] in QUIET), ("others", but_quiet)])
     Agent.end()
     print(*wrong, sep="\n" if wrong else "", end="\n" if wrong else "")
     return 1 if wrong else 0

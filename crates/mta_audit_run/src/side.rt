@@ -25,7 +25,7 @@ use mta_ber::{Memory, Octets, Word};
 use mta_journal::{OpenWhy, Rest};
 use mta_records::{RecordFault, Step, read_record};
 use mta_replay::{NotMade, Replay};
-use mta_table_rules::TableRules;
+use mta_table_rules::{TableRules, text_reads};
 use mta_tables::Tables;
 use std::alloc::Global;
 
@@ -98,14 +98,6 @@ fn open_why(why: NotMade, at: u64) -> OpenWhy
         NotMade::Impossible => OpenWhy::NotSpool { at },
         NotMade::Memory => OpenWhy::Memory,
     }
-}
-
-// The text of tables reads as them.
-#[tactic(auto, unfolding(mta_machine::specs::Rules::tables_value))]
-fn text_reads(tables: &Tables)
-    ensures { tables_value tables.now.text ≡ Some tables.now }
-{
-    let _text = tables.text();
 }
 
 // The agent's own name by its tables.

@@ -34,7 +34,7 @@ use Rattle.mta_spool.specs.Turning.{IsLastRecorded}
 use Rattle.mta_stations.specs.Halting.{halt_of}
 use Rattle.mta_stations.specs.declared.end.Halt.{Halt}
 use Rattle.mta_stations.specs.declared.end.Halt.TheVariants as halts
-use Rattle.mta_tables.specs.Tables.{TablesValue, tables_of}
+use Rattle.mta_tables.specs.Tables.{TablesValue}
 use Rattle.mta_worker.specs.Answers.{Answered}
 use Rattle.mta_worker.specs.Halting.{fault_of, halt_after}
 use Rattle.mta_worker.specs.PeerLines.{line_in}
@@ -55,7 +55,7 @@ use Rattle.mta_worker.specs.declared.ready.Ready.TheVariants as ready
 use Rattle.mta_worker.specs.declared.telling.Lost.{Lost}
 use Rattle.mta_worker.specs.declared.telling.Lost.TheVariants as losts
 use Rattle.mta_drill_laws.specs.Tables.{east, first_tables, first_text, gold_1, second_tables, second_text}
-use Rattle.mta_drill_laws.proofs.TablesRead.{first_is_read}
+use Rattle.mta_drill_laws.proofs.TablesRead.{first_is_read, second_is_read}
 use Rattle.mta_drill_answer_laws.specs.Answers.{HasHistory, IsShort, WantsMemory, Works}
 use Rattle.mta_drill_answer_laws.proofs.Asking.{questions_are_asked}
 use Rattle.mta_drill_answer_laws.proofs.Looks.{looks_so}
@@ -72,16 +72,12 @@ use Rattle.mta_drill_stage_laws.proofs.Knowing.{looks_heard, none_is_refused, se
 use Rattle.mta_drill.specs.declared.side.Side.{Side}
 use Rattle.mta_drill.specs.Acts.{IsSide}
 use Rattle.mta_drill.specs.Runs.{HasCalled, IsAtStart, IsCallerOf, Listens, most_units, our_reference}
-use Rattle.mta_drill.proofs.Calling.{second_read}
 
 some-same : {A : Type 0} (x y : A) → Some x ≡ Some y → x ≡ y
 some-same x y e = cc
 
 none-is-some : {A : Type 0} (x : A) → None ≡ Some x → ⊥
 none-is-some x e = cc
-
-ok-same : {A E : Type 0} (x y : A) → ◌≡◌ {A = Result A E} (Ok x) (Ok y) → x ≡ y
-ok-same x y e = cc
 
 -- ---- the tables of both agents
 
@@ -94,16 +90,16 @@ none-recorded : (ts : List (List ℕ)) (text : List ℕ) → ts ≡ text ∷ [] 
 none-recorded ts text is none = (let both : text ∷ [] ≡ [] = sym is ∙ none in cc)
 
 first-tables : (m : Machine) (t : TablesValue) → m.tables ≡ first_text ∷ [] → IsLastRecorded m (Some t)
-    → tables_value t.text ≡ Some t → t ≡ first_tables
-first-tables m t is at read =
-    let text : t.text ≡ first_text = text-is m.tables first_text t.text is at in
-    some-same t first_tables (sym read ∙ ap (λ (os : List ℕ). tables_value os) text ∙ first_is_read)
+    → t ≡ first_tables
+first-tables m t is last =
+    let text : t.text ≡ first_text = text-is m.tables first_text t.text is last.0 in
+    some-same t first_tables (sym last.1 ∙ ap (λ (os : List ℕ). tables_value os) text ∙ first_is_read)
 
 second-tables : (m : Machine) (t : TablesValue) → m.tables ≡ second_text ∷ [] → IsLastRecorded m (Some t)
-    → tables_of t.text ≡ Ok t → t ≡ second_tables
-second-tables m t is at read =
-    let text : t.text ≡ second_text = text-is m.tables second_text t.text is at in
-    ok-same t second_tables (sym read ∙ ap (λ (os : List ℕ). tables_of os) text ∙ second_read)
+    → t ≡ second_tables
+second-tables m t is last =
+    let text : t.text ≡ second_text = text-is m.tables second_text t.text is last.0 in
+    some-same t second_tables (sym last.1 ∙ ap (λ (os : List ℕ). tables_value os) text ∙ second_is_read)
 
 own-east : second_tables.own ≡ east
 unfolding east
@@ -129,12 +125,12 @@ module _ (before count n : ℕ) (first : SpoolState) (b : Breaks) (t : Shown Hel
 
   pub listens_so : (y : Side × Action) → Listens t (Some y) → starting.Listens t.current (party_of t y)
   listens_so y l =
-      let tables : l.0 ≡ second_tables = second-tables t.current.machine l.0 second-texts l.1 l.2 in
+      let tables : l.0 ≡ second_tables = second-tables t.current.machine l.0 second-texts l.1 in
       let own : l.0.own ≡ east = ap (λ (v : TablesValue). v.own) tables ∙ own-east in
       record {
         spool_is = refl;
         follows = subst (λ (o : List ℕ). Follows (new_responder o most_units) event.Go y.1 y.0.session) own
-            l.3.turn.follows;
+            l.2.turn.follows;
         came_is = refl;
       }
 
@@ -154,8 +150,8 @@ IsOurNext s _ = ⊥
 
 no-peer : (s : SpoolState) → s.machine.tables ≡ first_text ∷ [] → IsNoPeer s east → ⊥
 no-peer s is (No_tables none) = none-recorded s.machine.tables first_text is none
-no-peer s is (No_line t at read none) =
-    let same : t ≡ first_tables = first-tables s.machine t is at read in
+no-peer s is (No_line t at none) =
+    let same : t ≡ first_tables = first-tables s.machine t is at in
     none-is-some line_of_second
     (sym none ∙ ap (λ (v : TablesValue). line_in v east) same ∙ east-line)
 
@@ -167,7 +163,7 @@ record IsOurLine (tables : TablesValue) (line : Peer) : Type 0 where
 our-line : (s : SpoolState) (tables : TablesValue) (line : Peer) → s.machine.tables ≡ first_text ∷ []
     → IsLineNow s east tables line → IsOurLine tables line
 our-line s tables line is l =
-    let same : tables ≡ first_tables = first-tables s.machine tables is l.recorded l.read in
+    let same : tables ≡ first_tables = first-tables s.machine tables is l.recorded in
     record {
       tables_are = same;
       line_is = some-same line line_of_second

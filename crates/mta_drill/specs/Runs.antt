@@ -15,7 +15,7 @@ use Rattle.mta_spool.specs.Shown.{Shown}
 use Rattle.mta_spool.specs.Stands.{TellsFewer}
 use Rattle.mta_spool.specs.Turning.{IsLastRecorded}
 use Rattle.mta_stations.specs.declared.end.Halt.{Halt}
-use Rattle.mta_tables.specs.Tables.{TablesValue, tables_of}
+use Rattle.mta_tables.specs.Tables.{TablesValue}
 use Rattle.mta_worker.specs.Plans.{new_reference}
 use Rattle.mta_worker.specs.Readying.{IsReadied}
 use Rattle.mta_worker.specs.declared.ready.Ready.{Ready}
@@ -116,7 +116,7 @@ pub record HasCalled (peer : List ℕ) (old : Shown HeldDisk (List ℕ)) (x : Op
 abbrev pub Listens : Shown HeldDisk (List ℕ) → Option (Side × Action) → Type 0
 Listens s None = s.current.machine.tables ≡ []
 Listens s (Some x) =
-    (tables : TablesValue) × IsLastRecorded s.current.machine (Some tables) × (tables_of tables.text ≡ Ok tables)
+    (tables : TablesValue) × IsLastRecorded s.current.machine (Some tables)
     × HasTold (new_responder tables.own most_units) event.Go x.1 x.0.session × IsAtStart x.0
 
 -- ---- a session

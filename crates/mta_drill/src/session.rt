@@ -71,7 +71,6 @@ fn listener(alloc: Global, spool: &Agent) -> Result<Option<(Side, Action)>, Memo
     let Some(tables) = spool.tables() else {
         return Ok(None);
     };
-    let _text = tables.text();
     let own = own_name(tables)?;
     let mut session = Session::responder(alloc, own, LIMITS);
     let action = tell(&mut session, Event::Go)?;

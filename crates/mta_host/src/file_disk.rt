@@ -165,7 +165,9 @@ impl<'a, R: Files<File = File>> FileDisk<'a, R> {
     }
 
     // Opens both files, and waits until no other process has one of them. The second one is kept for its own disk.
-    fn open_first(&mut self, second: Path<'_>, pair: &Pair) -> io::Result<File> {
+    fn open_first(&mut self, second: Path<'_>, pair: &Pair) -> io::Result<File>
+        ensures { self.new.faults ≡ self.old.faults }
+    {
         let file = open(self.files, self.at)?;
         let Ok(other) = open(self.files, second) else {
             lock(self.files, self.at, &file)?;
@@ -188,7 +190,9 @@ impl<'a, R: Files<File = File>> FileDisk<'a, R> {
     }
 
     // Opens the file, in the way of the kind of which it is.
-    fn open(&mut self) -> io::Result<File> {
+    fn open(&mut self) -> io::Result<File>
+        ensures { self.new.faults ≡ self.old.faults }
+    {
         match self.which {
             Which::Alone => self.open_alone(),
             Which::First { second, pair } => self.open_first(second, pair),

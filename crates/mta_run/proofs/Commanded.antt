@@ -4,7 +4,9 @@ use Rattle.std.proofs.Common.{ap}
 use Rattle.std.proofs.Common.{subst}
 use Rattle.std.proofs.Common.{◌∙◌}
 use Rattle.std.specs.Prelude.{if◌then◌else◌}
-use Rattle.mta_edge.specs.Views.{ClockView, DiskLaws, DiskView, SourceView}
+use Rattle.std.specs.Prelude.{Vec}
+use Rattle.std.specs.Global.{Global}
+use Rattle.mta_edge.specs.Views.{ClockView, DiskLaws, DiskView, SinkView, SourceView}
 use Rattle.mta_links.specs.Links.{LinkView, StationView}
 use Rattle.mta_links.specs.declared.role.Role.{Role}
 use Rattle.mta_apdu.specs.Apdus.{longest_apdu}
@@ -22,7 +24,10 @@ use Rattle.mta_commands.specs.Command.{HasEnded, NoneWorked}
 use Rattle.mta_commands.specs.DiskLeft.{uncalled}
 use Rattle.mta_commands.specs.Handed.{handed}
 use Rattle.mta_commands.specs.Inputs.{longest_tables}
-use Rattle.mta_output.specs.Output.{Output}
+use Rattle.mta_output.specs.Output.{Output, output}
+use Rattle.mta_run.specs.declared.serve.Begun.{Begun}
+use Rattle.mta_run.specs.declared.serve.Begun.TheVariants as begun
+use Rattle.mta_run.specs.Begun.{HasBegunServing, HasBegunWith, over}
 use Rattle.mta_run.specs.Runs.{HasCommanded, sessions_in}
 use Rattle.mta_run.specs.Served.{HasServed, StationsLeft, Untouched}
 use Rattle.mta_commands.specs.Words.{are_stations_for, IsSaid, Serves, words_with}
@@ -113,21 +118,56 @@ with_others_as view all lent o words same e others =
     with_others (roles_in view all) o words e
     (subst (λ (ss : List _). are_stations_for words (roles_in view ss) ≡ false) same others)
 
--- the same as what `early` leaves
-pub early_ended : {D C I L S : Type 0} (disks : DiskView D) (clocks : ClockView C) (sources : SourceView I)
-    (links : LinkView L) (stations : StationView S) (laws : DiskLaws disks) (words : Option Words) (conf input : I)
-    (disk : D) (clock : C) (before after : List S) (out : Output) (stop : Stop) (disk_after : D)
-    (result : Result (Unit {0}) Stop) → disk_after ≡ disk → result ≡ Err stop → after ≡ before
-    → out.after ≡ out.before
-    → Cause (handed disks clocks sources words conf conf input input disk disk clock) [] [] uncalled stop
-    → HasCommanded disks clocks sources links stations words conf conf input input disk disk_after clock before after
-    out
-    result
-early_ended disks clocks sources links stations laws words conf input disk clock before after out stop disk_after result
-    same is kept silent cause =
-    subst (λ (r : Result (Unit {0}) Stop). HasCommanded disks clocks sources links stations words conf conf input input
-    disk disk_after clock before after out r) (sym is)
-    (subst (λ (d : _). HasCommanded disks clocks sources links stations words conf conf input input disk d clock before
-    after out (Err stop)) (sym same)
-    (commanded_early disks clocks sources links stations laws words conf input disk clock before after out stop kept
-    silent cause))
+module _ {D C I O L S : Type 0} (disks : DiskView D) (clocks : ClockView C) (sources : SourceView I)
+    (sinks : SinkView O) (links : LinkView L) (stations : StationView S) where
+  abbrev Begins : (words : Option Words) (conf conf_after input input_after : I) (disk : D) (clock : C) (before : List S)
+      (out out_after : O) → Begun D C S → Type 0
+  Begins = HasBegunWith disks clocks sources sinks links stations
+
+  -- a command without workers is over
+  pub begun_alone : (words other : Words) → words ≡ other → (Serves (Some other) → ⊥)
+      → (conf conf_after input input_after : I) (disk : D) (clock : C) (all : Vec S Global) (out out_after : O)
+      (own : Ended D) (b : Begun D C S) → b ≡ over own all
+      → HasEnded (handed disks clocks sources (Some other) conf conf_after input input_after disk own.disk clock)
+      NoneWorked (output sinks out out_after) own.outcome
+      → Begins (Some words) conf conf_after input input_after disk clock all.items out out_after b
+  begun_alone words other is alone conf conf_after input input_after disk clock all out out_after own b e x =
+      subst (Begins (Some words) conf conf_after input input_after disk clock all.items out out_after) (sym e)
+      (commanded_alone disks clocks sources links stations words other is alone conf conf_after input input_after disk
+      clock all.items all.items (output sinks out out_after) own own refl refl x)
+
+  -- the workers of `serve` may work, or it stopped before them
+  pub begun_with : (words : Words) (sessions : ℕ) (named : List StationWord) → words ≡ Say.Serve sessions named
+      → IsSaid words → (before : List S) → are_stations_for words (roles_in stations before) ≡ true
+      → (conf conf_after input : I) (disk : D) (clock : C) (out : O) (b : Begun D C S)
+      → HasBegunServing disks clocks sources links stations sessions (roles_in stations before) conf conf_after disk
+      clock before b → Begins (Some words) conf conf_after input input disk clock before out out b
+  begun_with words sessions named is said before theirs conf conf_after input disk clock out (begun.Over e) x =
+      commanded_serving disks clocks sources links stations words sessions named is said (roles_in stations before)
+      theirs conf conf_after input disk e.ended.disk clock before e.stations.items (output sinks out out)
+      e.ended.outcome (x (output sinks out out) refl)
+  begun_with words sessions named is said before theirs conf conf_after input disk clock out
+      (begun.Serving mid left limits) x =
+      let roles_are : roles_in stations before ≡ roles_of named =
+      named_so (roles_in stations before) words sessions named is theirs in
+      record {
+        sessions = sessions;
+        named = named;
+        words_are = ap (λ (w : Words). Some w) is;
+        roles_are = roles_are;
+        others = subst CallOthers (sym roles_are) (call_others words sessions named is said);
+        input_same = refl;
+        out_same = refl;
+        serving = x;
+      }
+
+  -- the run stopped before it read or opened anything
+  pub begun_early : (laws : DiskLaws disks) (words : Option Words) (conf input : I) (disk : D) (clock : C)
+      (all : Vec S Global) (out : O) (stop : Stop) (b : Begun D C S)
+      → b ≡ over (record { disk = disk; outcome = Err stop }) all
+      → Cause (handed disks clocks sources words conf conf input input disk disk clock) [] [] uncalled stop
+      → Begins words conf conf input input disk clock all.items out out b
+  begun_early laws words conf input disk clock all out stop b e cause =
+      subst (Begins words conf conf input input disk clock all.items out out) (sym e)
+      (commanded_early disks clocks sources links stations laws words conf input disk clock all.items all.items
+      (output sinks out out) stop refl refl cause)

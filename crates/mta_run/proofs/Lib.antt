@@ -6,6 +6,7 @@ pub mod SpoolServed
 pub mod ServedWorkers
 pub mod ServedAll
 pub mod OtherPeers
+pub mod Beginning
 pub mod Commanded
 pub mod Drilled
 pub mod EndsAsMany

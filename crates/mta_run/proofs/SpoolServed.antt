@@ -39,17 +39,6 @@ module _ {D C L S : Type 0} (disks : DiskView D) (clocks : ClockView C) (links :
   abbrev Serves : Result (Unit {0}) Stop → Type 0
   Serves = ServesSpool disks clocks links stations sessions conf out spool before after disk
 
-  pub not_begun : (fault : StepFault) (stop : Stop)
-      → HasBegun disks (clocks.tells spool.clock) conf spool mid (Err fault) → disk ≡ mid.journal.disk
-      → after ≡ before → out.after ≡ out.before → stop ≡ stop_of_step fault → outcome ≡ Err stop
-      → Serves outcome
-  not_begun fault stop b disk_is same silent is e =
-      subst Serves (sym (e ∙ ap (λ (s : Stop). Err s) is)) (Not_begun mid fault b disk_is same silent)
-
-  pub unserved : HasBegun disks (clocks.tells spool.clock) conf spool mid (Ok tt) → disk ≡ mid.journal.disk
-      → after ≡ before → out.after ≡ out.before → outcome ≡ Err Stops.Memory → Serves outcome
-  unserved b disk_is same silent e = subst Serves (sym e) (No_workers mid b disk_is same silent)
-
   pub served : {limits : Limits} (joined final : Shown D C) (ends lent : List WorkerEnd)
       (result : Result (Unit {0}) Stop) → HasBegun disks (clocks.tells spool.clock) conf spool mid (Ok tt)
       → mid.opened ≡ spool.opened → IsPrefix mid.entries joined.entries

@@ -3,3 +3,4 @@ pub mod Drilling
 pub mod Served
 pub mod Ran
 pub mod Runs
+pub mod Begun

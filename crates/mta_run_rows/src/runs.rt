@@ -9,14 +9,15 @@
 //! octets and no more. `held-station` is the same, but its link gives nothing before another station's link has come
 //! back.
 //!
-//! In these a field behind the first says what is wanted. `run` runs the words behind it, over the disk as it is and
-//! without stations, and is answered the status and what was printed. `run-in-place` is the same over a disk that is
-//! changed in place, which nothing makes fail, and with the stations that were handed in. `put` is answered what the
-//! link of the station of this number was put then. `holds` is answered what the disk holds, `size` how many octets
-//! that is, and `records` records the tables in the spool that the disk holds, and is answered how many items it has.
-//! `stops` runs `submit`, stops it at each of its device calls by each of eight choices of what a crash leaves, and
-//! runs `spool` over the image: at the end it has to be answered as the first field behind says, and before as that
-//! or as one of the others. `stops-of-spool` is the same of `spool`, which does no more than open the disk and print.
+//! In these a field behind the first says what is wanted. `run` runs the words behind it, which may be none, over the
+//! disk as it is and without stations, and is answered the status and what was printed. `run-in-place` is the same over
+//! a disk that is changed in place, which nothing makes fail, and with the stations that were handed in. `put` is
+//! answered what the link of the station of this number was put then. `holds` is answered what the disk holds, `size`
+//! how many octets that is, and `records` records the tables in the spool that the disk holds, and is answered how many
+//! items it has. `stops` runs `submit`, stops it at each of its device calls by each of eight choices of what a crash
+//! leaves, and runs `spool` over the image: at the end it has to be answered as the first field behind says, and before
+//! as that or as one of the others. `stops-of-spool` is the same of `spool`, which does no more than open the disk and
+//! print.
 //!
 //! The rows were worked out by hand from the manual, the format of the journal, the protocol of a lane and X.411.
 

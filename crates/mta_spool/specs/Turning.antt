@@ -8,6 +8,7 @@ use Rattle.mta_records.specs.declared.fault.StepFault.TheVariants as StepFaults
 use Rattle.mta_tables.specs.Tables.{TablesValue}
 use Rattle.mta_machine.specs.Items.{Machine, numbered}
 use Rattle.mta_machine.specs.Machine.{last_tables}
+use Rattle.mta_machine.specs.Rules.{tables_value}
 use Rattle.mta_histories.specs.Lanes.{State}
 use Rattle.mta_histories.specs.Due.{IsQuiet, IsNext}
 use Rattle.mta_spool.specs.declared.spool.Turned.{Turned}
@@ -19,10 +20,11 @@ use Rattle.mta_spool.specs.Stands.{Appends, fault_of}
 abbrev pub IsRecorded : State → List ℕ → Type 0
 IsRecorded s text = numbered s.machine.tables (last_tables s.machine) ≡ Some text
 
--- these are the tables recorded last, or none were recorded
+-- these are the tables recorded last, as their text reads, or none were recorded
 abbrev pub IsLastRecorded : Machine → Option TablesValue → Type 0
 IsLastRecorded m None = m.tables ≡ []
-IsLastRecorded m (Some tables) = numbered m.tables (last_tables m) ≡ Some tables.text
+IsLastRecorded m (Some tables) =
+    (numbered m.tables (last_tables m) ≡ Some tables.text) × (tables_value tables.text ≡ Some tables)
 
 -- nothing but what the clock may answer has changed
 abbrev pub IsUnchanged : {D C : Type 0} → Shown D C → Shown D C → Type 0

@@ -32,7 +32,7 @@ use mta_lanes::Lane;
 use mta_machine::{Item, MailboxLine};
 use mta_records::{Step, StepFault};
 use mta_replay::{Ready, Replay};
-use mta_table_rules::TableRules;
+use mta_table_rules::{TableRules, text_reads};
 use mta_tables::Tables;
 use std::alloc::Global;
 use std::marker::Model;
@@ -356,7 +356,11 @@ impl<D: Disk + Drop, C: Clock + Drop> Spool<D, C> {
         ensures { IsLastRecorded self.now.current.machine (option_copied result) }
     {
         match &self.replay.rules {
-            Some(force) => Some(force.rules.tables()),
+            Some(force) => {
+                let tables = force.rules.tables();
+                text_reads(tables);
+                Some(tables)
+            }
             None => None,
         }
     }

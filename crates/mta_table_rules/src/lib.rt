@@ -14,4 +14,5 @@ mod submitted;
 mod table_rules;
 mod verdicts;
 
+pub use reading::text_reads;
 pub use table_rules::TableRules;

@@ -4,7 +4,6 @@ use Rattle.mta_records.specs.declared.lane.LaneRole.TheVariants.{Initiator}
 use Rattle.mta_tables.specs.Tables.{TablesValue}
 use Rattle.mta_histories.specs.Lanes.{Lane, State, lane_at}
 use Rattle.mta_spool.specs.Looking.{IsFirstNamed}
-use Rattle.mta_machine.specs.Rules.{tables_value}
 use Rattle.mta_spool.specs.Turning.{IsLastRecorded}
 use Rattle.mta_session.specs.declared.peer.Peer.{Peer}
 use Rattle.mta_worker.specs.PeerLines.{line_in}
@@ -15,14 +14,13 @@ use Rattle.mta_worker.specs.declared.proposal.Next.TheVariants as next
 -- the line of the peer in the tables of the text recorded last
 pub record IsLineNow (s : State) (peer : List ℕ) (tables : TablesValue) (line : Peer) : Type 0 where
   pub recorded : IsLastRecorded s.machine (Some tables)
-  pub read : tables_value tables.text ≡ Some tables
   pub line_is : line_in tables peer ≡ Some line
 
 -- no tables are recorded, or those recorded last do not name the peer
 pub data IsNoPeer (s : State) (peer : List ℕ) : Type 0 where
   No_tables : IsLastRecorded s.machine None → IsNoPeer s peer
-  No_line : (tables : TablesValue) → IsLastRecorded s.machine (Some tables)
-      → tables_value tables.text ≡ Some tables → line_in tables peer ≡ None → IsNoPeer s peer
+  No_line : (tables : TablesValue) → IsLastRecorded s.machine (Some tables) → line_in tables peer ≡ None
+      → IsNoPeer s peer
 
 -- no lane to the peer is open that this agent opened
 abbrev pub HasNone : State → (peer : List ℕ) → Type 0

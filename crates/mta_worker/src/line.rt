@@ -1,7 +1,6 @@
 //! The line of a peer in the tables recorded last.
 
-ghost use Rattle.std.specs.Prelude.{◌≡◌, IfOk, IfSome, Some};
-ghost use Rattle.mta_machine.specs.Rules.{tables_value};
+ghost use Rattle.std.specs.Prelude.{◌≡◌, IfOk, IfSome};
 ghost use Rattle.mta_worker.specs.PeerLines.{IsLine};
 ghost use Rattle.mta_worker.specs.Lines.{line_now};
 
@@ -10,16 +9,7 @@ use mta_ber::Memory;
 use mta_edge::{Clock, Disk};
 use mta_session::Peer;
 use mta_spool::Spool;
-use mta_tables::Tables;
 use std::alloc::Global;
-
-/// The text of tables reads as them.
-#[tactic(auto, unfolding(mta_machine::specs::Rules::tables_value))]
-pub(crate) fn text_reads(tables: &Tables)
-    ensures { tables_value tables.now.text ≡ Some tables.now }
-{
-    let _text = tables.text();
-}
 
 /// The line of a name in the tables recorded last; none where there is none.
 pub fn line_of<D: Disk + Drop, C: Clock + Drop>(
@@ -31,10 +21,7 @@ pub fn line_of<D: Disk + Drop, C: Clock + Drop>(
     ensures fits { IfOk result (λ p. IfSome p IsLine) }
 {
     match spool.tables() {
-        Some(tables) => {
-            text_reads(tables);
-            line_in(alloc, tables, name)
-        }
+        Some(tables) => line_in(alloc, tables, name),
         None => Ok(None),
     }
 }

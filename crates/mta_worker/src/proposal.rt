@@ -7,7 +7,6 @@ ghost use Rattle.mta_worker.specs.PeerLines.{IsLine};
 ghost use Rattle.mta_worker.specs.Proposals.{HasFirst, HasNone, IsNext};
 ghost use Rattle.mta_worker.specs.Nexts.{IsProposed, next_of_lane, next_of_none};
 
-use crate::line::text_reads;
 use crate::peer_line::line_in;
 use crate::plan::{plan_to_open, plan_to_recover};
 use mta_ber::{Memory, Word};
@@ -97,7 +96,6 @@ pub fn next_with<D: Disk + Drop, C: Clock + Drop>(
     let Some(tables) = spool.tables() else {
         return Ok(Next::NoPeer);
     };
-    text_reads(tables);
     let Some(line) = line_in(alloc, tables, peer.as_slice())? else {
         return Ok(Next::NoPeer);
     };

@@ -16,6 +16,14 @@ use std::sync::Wait;
 use std::sync::atomic::AtomicU64;
 use std::thread::Threads;
 
+// The words of a line. An empty line has none.
+fn words_in(alloc: Global, line: &str) -> Result<Vec<String>, AllocError> {
+    if line.is_empty() {
+        return Ok(Vec::new(alloc));
+    }
+    words_of(alloc, line, ' ')
+}
+
 /// What words make of a disk of these octets, whose call of this number fails, without stations; and what they print.
 pub fn finished<R: Threads + Wait + Sync>(
     rt: &R,
@@ -26,7 +34,7 @@ pub fn finished<R: Threads + Wait + Sync>(
     fails: u64,
     out: &mut MemSink,
 ) -> Result<Finished<MemDisk, MemStation>> {
-    let words = words_of(alloc, line, ' ')?;
+    let words = words_in(alloc, line)?;
     let conf = Octets::from_slice(alloc, held.case.tables.as_slice())?;
     let input = Octets::from_slice(alloc, held.case.input.as_slice())?;
     let input_fails = [held.input_fails].to_vec(alloc)?;
@@ -108,7 +116,7 @@ fn finished_in_place<'a, R: Threads + Wait + Sync>(
     out: &mut MemSink,
     flag: &'a AtomicU64,
 ) -> Result<Finished<SafeDisk, Stop<'a, R>>> {
-    let words = words_of(alloc, line, ' ')?;
+    let words = words_in(alloc, line)?;
     let conf = Octets::from_slice(alloc, held.case.tables.as_slice())?;
     let input = Octets::from_slice(alloc, held.case.input.as_slice())?;
     let clock = clock(alloc, held.case.moment)?;

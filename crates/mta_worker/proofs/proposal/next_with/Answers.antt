@@ -9,7 +9,7 @@ returns-in_default-clause-exact g c = Without (No_tables c.in_default.ensures)
 
 pub returns-in_default-2-clause-exact : goal.returns-in_default-2-clause-exact
 returns-in_default-2-clause-exact g c =
-    Without (No_line c.in-Some.tables.now c.in-Some.ensures c.text_reads.ensures
+    Without (No_line c.in-Some.tables.now c.in-Some.ensures
     (ap (line_in c.in-Some.tables.now) (sym c.as_slice.ensures.exact)
     ∙ (sym c.in_ok-line.ensures.exact ∙ c.in_default-2.is)))
 
@@ -19,7 +19,6 @@ returns-in-Some-open_lane-clause-exact g c =
     c.in-Some-open_lane.lane.now c.next_of_lane.result
     (record {
       recorded = c.in-Some.ensures;
-      read = c.text_reads.ensures;
       line_is = ap (line_in c.in-Some.tables.now) (sym c.as_slice.ensures.exact)
           ∙ (sym c.in_ok-line.ensures.exact ∙ c.in-Some-2.is);
     })
@@ -31,7 +30,6 @@ returns-in-None-clause-exact g c =
     c.next_of_none.result c.moment.result c.lane_count.result
     (record {
       recorded = c.in-Some.ensures;
-      read = c.text_reads.ensures;
       line_is = ap (line_in c.in-Some.tables.now) (sym c.as_slice.ensures.exact)
           ∙ (sym c.in_ok-line.ensures.exact ∙ c.in-Some-2.is);
     })
