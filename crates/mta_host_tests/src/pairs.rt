@@ -2,7 +2,7 @@
 
 use crate::files::beside;
 use mta_edge::{Disk, Failed};
-use mta_host::{FileDisk, Pair, Process};
+use mta_host::{FileDisk, Pair, Path, Process};
 use std::fs::{self, File, Files};
 use std::os::unix::fs::symlink;
 use std::test::Fail;
@@ -56,19 +56,28 @@ fn both_are_one_file(rt: HostRuntime) -> Result<(), Fail> {
     Ok(())
 }
 
+// Whether both files can be had. They are let go again.
+fn are_opened<'a, R: Files<File = File>>(
+    files: &'a R,
+    process: &'a Process,
+    first: Path<'a>,
+    second: Path<'a>,
+) -> bool {
+    let pair = Pair::new();
+    let (mut one, mut other) = FileDisk::pair(files, process, first, second, &pair);
+    one.size().is_ok() && other.size().is_ok()
+}
+
 // Opens both files again and again, and lets them go; how often that succeeded.
-fn opened<R: Files<File = File>>(files: &R, process: &Process, first: &str, second: &str) -> u32 {
+fn opened<'a, R: Files<File = File>>(
+    files: &'a R,
+    process: &'a Process,
+    first: Path<'a>,
+    second: Path<'a>,
+) -> u32 {
     let mut count = 0u32;
     for _ in 0..ROUNDS {
-        let pair = Pair::new();
-        let (mut one, mut other) = FileDisk::pair(
-            files,
-            process,
-            beside(first),
-            beside(second),
-            &pair,
-        );
-        if one.size().is_ok() && other.size().is_ok() {
+        if are_opened(files, process, first, second) {
             count = count.saturating_add(1);
         }
     }
@@ -78,10 +87,11 @@ fn opened<R: Files<File = File>>(files: &R, process: &Process, first: &str, seco
 #[test]
 fn two_threads_open_both_in_either_order(rt: HostRuntime) -> Result<(), Fail> {
     let process = Process::new(&rt, 1);
+    let (left, right) = (beside("left.try"), beside("right.try"));
     let counts = thread::join(
         &rt,
-        || opened(&rt, &process, "left.try", "right.try"),
-        || opened(&rt, &process, "right.try", "left.try"),
+        || opened(&rt, &process, left, right),
+        || opened(&rt, &process, right, left),
     );
     assert_eq!(rt; counts, (ROUNDS, ROUNDS));
     fs::remove_file(&rt, "left.try")?;

@@ -12,7 +12,7 @@ use std::thread;
 use std::time::Duration;
 
 // A call of a file that cannot be opened fails, and so does the process.
-fn fail<R: Files<File = File>>(files: &R, process: &Process) -> bool {
+fn fail<'a, R: Files<File = File>>(files: &'a R, process: &'a Process) -> bool {
     let absent = Path {
         folder: "absent.try",
         path: "absent.try/spool",
