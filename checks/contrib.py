@@ -210,7 +210,8 @@ def histories():
     # what waits for nobody expires
     agent("gold", *GOLD, "hold normal 1", "hold urgent 1", "hold non-urgent 1")
     time.sleep(2)
-    mta(gold, "serve", "1", "out:NOBODY:no.such.invalid:1")
+    # what is due is done before anybody is called
+    ran(["timeout", "5", MTA, "serve", "1", "out:NOBODY:no.such.invalid:1"], gold, status=124)
     for folder in (gold, silver):
         same_queue(folder)
         steps = [json.loads(it) for it in tool("mta-log", "--json", folder).decode().splitlines()]

@@ -24,6 +24,7 @@ from real import OURS, TABLES, THEIRS, Silver, values
 AT_ONCE = 4  # runs side by side
 WAIT = 120  # seconds within which a program ends
 PAUSE = 0.02  # seconds between two looks at a port
+FILES = ("mta.spool", "mta.marks", "other/mta.spool")
 NO_INPUT, NO_SOURCE, NO_OUTPUT = 6, 8, 9  # statuses: nothing to read, tables that cannot be read, an output that fails
 SETS = [it for count in range(4) for it in itertools.combinations(range(3), count)]
 CLOSED = ("<&-", ">&-", "2>&-")
@@ -96,7 +97,7 @@ COMMANDS = [
     Command("mta", "spool"),
     Command("mta", "read", "watt"),
     Command("mta", "decode", reads=True),
-    Command("mta", "drill", "3"),
+    Command("mta", "drill", "1"),
     Command("mta", "serve", "1", "in:PORT", tables=NO_SOURCE, beside=calls),
     Command("mta_store", "list", "watt"),
     Command("mta_store", "fetch", "watt", "1"),
@@ -115,6 +116,8 @@ def apdu_of(number):
 
 class Run:
     """A command in a folder of its own, with these descriptors closed."""
+
+    told = {}  # what files of these octets hold
 
     def __init__(self, check, command, closing, with_tables, number):
         self.programs, self.base, self.command, self.closing = check.programs, check.base, command, closing
@@ -146,13 +149,20 @@ class Run:
         return self.process.returncode
 
     def texts(self):
-        """What the spool and the marks hold, by the programs, with no moments; of a copy."""
+        """What the spool and the marks hold, by the programs, with no moments. Of the same octets it is asked once."""
+        held = []
+        for name in FILES:
+            with open(f"{self.folder}/{name}", "rb") as file:
+                held.append(file.read())
+        if tuple(held) not in self.told:
+            self.told[tuple(held)] = self.texts_of_copy()
+        return self.told[tuple(held)]
+
+    def texts_of_copy(self):
         copy = f"{self.folder}/copy"
-        os.mkdir(copy)
-        for name in ("mta.spool", "mta.marks", "other/mta.spool"):
-            if os.path.exists(f"{self.folder}/{name}"):
-                os.makedirs(os.path.dirname(f"{copy}/{name}"), exist_ok=True)
-                shutil.copy(f"{self.folder}/{name}", f"{copy}/{name}")
+        for name in FILES:
+            os.makedirs(os.path.dirname(f"{copy}/{name}"), exist_ok=True)
+            shutil.copy(f"{self.folder}/{name}", f"{copy}/{name}")
         mta, store = self.programs["mta"], self.programs["mta_store"]
         return [said([mta, "spool"], copy), said([mta, "read", "watt"], copy), said([store, "list", "watt"], copy),
                 said([mta, "spool"], f"{copy}/other")]

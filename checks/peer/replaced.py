@@ -3,9 +3,11 @@
 import functools
 import os
 import shutil
+import socket
 import sys
+import time
 
-from agent import Agent, connect, free_port
+from agent import Agent, free_port
 from initiator import Initiator
 from link import Link
 from pairs import Wrong
@@ -75,9 +77,21 @@ class Watch:
         return [it.hex()[:40] for it in self.answers if it[4:5] != write(Abort(0))[4:5]]
 
 
-def session(silver, port, does=None):
+def called(agent, port):
+    """A connection to the agent; none where it has ended, as it may with the step that it makes after a session."""
+    while agent.serving.poll() is None:
+        try:
+            return socket.create_connection(("127.0.0.1", port))
+        except ConnectionRefusedError:
+            time.sleep(0.01)
+    return None
+
+
+def session(silver, connection, does=None):
     """A session of the true peer: how it ended, and what was acknowledged behind what is done in it."""
-    link = Link(connect(port), silver.lines.append)
+    if connection is None:
+        return "refused", []
+    link = Link(connection, silver.lines.append)
     watch = Watch(link, does)
     end = Initiator(link, Record(silver.store), values("twa")).run()
     if not watch.is_done:
@@ -90,13 +104,13 @@ def plays(mta, folder, does, is_within):
     agent, silver, port = Agent(mta, folder, TABLES.format(mode="twa")), Silver(), free_port()
     agent.serve("1000", f"in:{port}", f"in:{free_port()}")
     silver.queue(SIZE)
-    if session(silver, port)[0] != "closed" or not silver.are_sent():
+    if session(silver, called(agent, port))[0] != "closed" or not silver.are_sent():
         raise silver.wrong("the first session is not closed")
     replace = functools.partial(does, f"{folder}/mta.spool")
     silver.queue(SIZE)
     if not is_within:
         replace()
-    end, acknowledged = session(silver, port, replace if is_within else None)
+    end, acknowledged = session(silver, called(agent, port), replace if is_within else None)
     if end == "closed" or acknowledged or silver.are_sent():
         raise silver.wrong(f"the session ended {end}, and these came: {acknowledged}")
     told, _ = agent.serving.communicate(timeout=SOON)
