@@ -8,6 +8,7 @@ import random
 import re
 import shutil
 import signal
+import socket
 import subprocess
 import sys
 import time
@@ -161,8 +162,35 @@ def try_stays():
     it.has_once(["ONE"])
 
 
+def try_orphan():
+    """A run is killed while its `mta submit` waits for the spool: the next run waits for that one, which still takes
+    the file."""
+    it = Place("orphan")
+    it.put("one", message("ONE"))
+    serves = subprocess.Popen([MTA, "serve", "1", f"in:{a_port()}"], cwd=it.folder, stdout=subprocess.DEVNULL)
+    until(lambda: os.path.exists(f"{it.folder}/mta.stations"))
+    run = subprocess.Popen(it.words(), stdout=subprocess.DEVNULL)
+    until(lambda: children_of(run.pid))
+    orphan, = children_of(run.pid)
+    until(lambda: not has_input(orphan))
+    kill(run, "run")
+    run.wait()
+    if "another run has" not in it.run(status=1, wait=1):
+        raise Wrong("the next run does not wait for what the first one began")
+    serves.kill()
+    serves.wait()
+    if "one accepted before C=GB;A=GOLD/ONE" not in it.run():
+        raise Wrong("the next run does not see what the first one began")
+    it.has_once(["ONE"])
+
+
+def has_input(number):
+    """Whether a process has not yet read its input to the end: it waits for a lock after that."""
+    with open("/proc/locks", encoding="ascii") as file:
+        return not any("->" in line and f" {number} " in line for line in file)
+
+
 def a_port():
-    import socket
     with socket.create_server(("127.0.0.1", 0)) as it:
         return it.getsockname()[1]
 
@@ -362,7 +390,8 @@ def tried(name, call):
 
 def main():
     seed = int(sys.argv[4]) if len(sys.argv) > 4 else random.randrange(1 << 32)
-    for name, call in (("files", try_files), ("what stays", try_stays), ("stops", try_stops), ("a shrink", try_shrink),
+    for name, call in (("files", try_files), ("what stays", try_stays), ("an orphan", try_orphan),
+                       ("stops", try_stops), ("a shrink", try_shrink),
                        ("the same octets", try_same_octets), ("doubt", try_doubt),
                        ("kills", lambda: try_kills(seed))):
         tried(name, call)

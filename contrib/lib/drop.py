@@ -22,13 +22,12 @@ Why no file is lost, and none submitted twice, wherever the process, `mta submit
    and the next run waits for the lock.
 6. Where the spool is another one than the note speaks of, since it was moved away or put back from a copy, nobody can
    say whether the file was submitted: it goes to `failed` with those words. So it does where the disk failed, and the
-   system's memory has the item, but perhaps not the medium.
+   system's memory has the item, but the medium perhaps not.
 
 What is submitted is known by its octets: where another program submits the very octets of a file, identifier and all,
 after its note was made, and this one is stopped then, the two count as one.
 """
 import contextlib
-import ctypes
 import errno
 import fcntl
 import hashlib
@@ -80,6 +79,7 @@ def sync_folder(path, inside=None):
     try:
         folder = os.open(path, os.O_RDONLY)
     except PermissionError:
+        import ctypes  # for those who put alone: the service may make no memory as this does
         if inside is None or ctypes.CDLL(None).syncfs(inside):
             os.sync()
         return
