@@ -44,6 +44,12 @@ def of(tag, *parts):
     return tag + length + inside
 
 
+def inside(octets):
+    """What is in an element, in hexadecimal as it is."""
+    size = int(octets[2:4], 16)
+    return octets[4 + 2 * max(size - 128, 0):]
+
+
 def text(words):
     return words.encode("latin-1").hex()
 
@@ -142,8 +148,8 @@ def try_answers():
         to_bell = of("a2", of("31", of("a0", OF_BELL)))
         want("a reply", got.hex(), of("a0", of("31", own, of("a0", OF_WATT), to_bell, replied, about), of("30", HI)))
         got = content_in(message("--forward", source, BELL, WATT, "M1"))
-        inside = of("30", content_in(first).hex()[4:])
-        want("a message that is forwarded", got.hex(), ipm([FROM_BELL, to(2)], HI, of("a9", of("31"), inside)))
+        whole = of("30", inside(content_in(first).hex()))
+        want("a message that is forwarded", got.hex(), ipm([FROM_BELL, to(2)], HI, of("a9", of("31"), whole)))
         got = tool("message.py", "--acknowledge", source, WATT, "A1")
         want("to whom it goes", re.findall(r"^recipient .* (C=.*)", decoded(got), re.M), [BELL])
         received = rb"\x80\x0d\d{12}Z"
@@ -169,7 +175,7 @@ def decoded(apdu):
 def try_reading():
     """What others send: Teletex, every field, a message that is forwarded with its files, and notifications."""
     teletex = of("a5", of("31"), of("30", of("14", "c865" + text(" and")), of("14", text("page 2"))))
-    named = of("31", of("a0", of("a0", text("Mr Watt"))))
+    named = of("31", of("a0", of("80", text("Mr Watt"))))  # a free-form name
     fields = [of("a1", of("31", OF_AIDE)), of("a2", of("31", of("a0", OF_WATT), of("81", "0680"), of("82", "ff")), named),
               of("a6", IDENTIFIED), of("a7", of("6b", of("13", text("OTHER")))), of("8c", "01"), of("8d", "09"),
               of("8e", "ff")]
@@ -178,8 +184,8 @@ def try_reading():
          "receipt-wanted C=GB;A=GOLD;S=WATT\nreply-wanted C=GB;A=GOLD;S=WATT\nto Mr Watt\n"
          "obsoletes M1 of C=GB;A=GOLD;S=BELL\nrelated OTHER\nimportance normal\nsensitivity 9\nauto-forwarded yes\n"
          "\në and\npage 2\n")
-    inner = of("30", ipm([FROM_BELL], HI, of("ae", "0405"), general((6, 100), "e5"))[4:])
-    outer = ipm([FROM_BELL], of("a9", of("31", of("80", text("261127180000Z"))), inner), of("ae", "01"))
+    inner = of("30", inside(ipm([FROM_BELL], HI, of("8e", "0405"), general((6, 100), "e5"))))
+    outer = ipm([FROM_BELL], of("a9", of("31", of("80", text("261127180000Z"))), inner), of("8e", "01"))
     got = tool("mta-ipm", "--folder", "inner", octets=bytes.fromhex(outer)).decode()
     want("a message in a message", got, "identifier M1\nfrom C=GB;A=GOLD;S=BELL\nfile part-1 1 octets\n\n"
          "forwarded delivered 261127180000Z\n| identifier M1\n| from C=GB;A=GOLD;S=BELL\n| file part-2 2 octets\n|\n"
