@@ -660,6 +660,52 @@ def try_tables():
             raise Wrong(f"tables-check.py of {text}:\n{said}")
 
 
+def try_pairs():
+    """The two lines of each pair of agents are compared, and letters are shown as they are."""
+    def of(name, domain, peer):
+        return agent(f"pair-{name}", f"domain C=GB;A={domain}", f"name {name}", *([f"peer {peer}"] if peer else []))
+
+    one = of("ONE", "ONE", "TWO a b twa 16 3")
+    for line, words, status in (
+            ("ONE b a twa 16 3", "ONE and TWO agree", 0), ("ONE b a twa 4 2", "checkpoint size 16 against 4, of which 4", 0),
+            ("ONE x a twa 16 3", "the password that TWO sends (line 3) is not the one that ONE expects (line 3)", 1),
+            ("ONE b x twa 16 3", "the password that ONE sends (line 3) is not the one that TWO expects (line 3)", 1),
+            ("ONE b a monologue 16 3", "TWO refuses the sessions that ONE calls", 1),
+            ("one b a twa 16 3", "ONE has the peer TWO, and TWO has no peer ONE", 1)):
+        said = tool("tables-check.py", "--mta", MTA, one, of("TWO", "TWO", line), status=status).decode()
+        if words not in said or said.count("mta takes these tables") != 2:
+            raise Wrong(f"tables-check.py of {line}: {said}")
+    rehearsal = f"{TOP}/samples/network.tables"
+    want("a rehearsal", tool("tables-check.py", "--mta", MTA, rehearsal).decode(),
+         "mta takes these tables\nGOLD-1 and EAST agree\n")
+    with open(rehearsal, "rb") as file:
+        text = file.read().replace(b"name EAST", b"name \xc3\x98ST")
+    with open(f"{MADE}/letters", "wb") as file:
+        file.write(text)
+    said = tool("tables-check.py", "--mta", MTA, f"{MADE}/letters", status=1).decode()
+    at = text[:text.index(b"name \xc3")].count(b"\n") + 1
+    if f"line {at}: an agent's name is 1 to 32 letters, digits or -, and not 'ØST'\nmta says: tables line {at} " not in said:
+        raise Wrong(f"tables-check.py of a letter: {said}")
+
+
+def try_refused():
+    """submit.sh takes nothing where it has no place to be, or to go to."""
+    post = agent("refused", *GOLD)
+    rows = [([f"{MADE}/nowhere", "SILVER-1"], 1, b"no such folder"), ([post, "OTHER"], 10, b"name no peer OTHER"),
+            ([post, "SILVER."], 10, b"name no peer")]
+    if os.geteuid() == 0:
+        theirs = agent("theirs", *GOLD)
+        os.chown(theirs, 65534, 65534)
+        rows.append(([theirs, "SILVER-1"], 1, b"belongs to"))
+    for words, status, line in rows:
+        ran_it = subprocess.run([f"{CONTRIB}/submit.sh", *words, "127.0.0.1", "1"], input=sample("message.ber"),
+                                stdout=subprocess.PIPE, stderr=subprocess.PIPE)
+        if ran_it.returncode != status or line not in ran_it.stderr or ran_it.stdout:
+            raise Wrong(f"submit.sh {words}: {ran_it}")
+        if os.path.exists(f"{words[0]}/mta.spool"):
+            raise Wrong(f"submit.sh {words} makes a spool")
+
+
 def try_submit():
     """While the hub is down nobody waits for longer than one call; what was accepted goes once it is there."""
     hub = agent("hub", "domain C=GB;A=GOLD", "name GOLD-1", "peer POST a b twa 4 3", "mailbox watt C=GB;A=GOLD;S=WATT")
@@ -738,7 +784,8 @@ def main():
              ("mta-apdu --pending", try_pending), ("mta-apdu, in doubt", try_doubt), ("a restored spool", try_restore),
              ("a snapshot", lambda: try_snapshot(1)), ("a snapshot of format 2", lambda: try_snapshot(2)),
              ("a direct copy", try_direct), ("message.py", try_message), ("tables-check.py", try_tables),
-             ("submit.sh", try_submit), ("fetch.py", try_fetch), ("contrib/README.md", try_readme))
+             ("pairs of agents", try_pairs),
+             ("submit.sh", try_submit), ("submit.sh where it may not be", try_refused), ("fetch.py", try_fetch), ("contrib/README.md", try_readme))
     # each of these has files of its own
     with ThreadPoolExecutor(AT_ONCE) as pool:
         for job in [pool.submit(tried, *it) for it in tools]:
