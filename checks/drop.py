@@ -376,7 +376,8 @@ def try_kills(seed):
     began = time.monotonic()
     it.run()
     usual = time.monotonic() - began
-    counts = dict.fromkeys(("kills", "with a file in hand", "found in the spool afterwards", "messages", "bad files"), 0)
+    kinds = ("kills", "with a file in hand", "found in the spool afterwards", "messages", "bad files")
+    counts = dict.fromkeys(kinds, 0)
     while counts["kills"] < KILLS:
         a_round(Place(f"round{counts['kills']}"), choose, usual, counts)
     print(f"seed {seed}: {', '.join(f'{key} {count}' for key, count in counts.items())}", flush=True)

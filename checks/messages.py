@@ -92,7 +92,8 @@ def to(number, *fields):
 def general(numbers, octets):
     """A body part of general text: character sets, and a GeneralString."""
     sets = of("31", *(of("02", f"{it:02x}") for it in numbers))
-    return of("af", of("a0", "06045601" "0b0b", of("a0", sets)), of("28", "06045601" "040b", of("a0", of("1b", octets))))
+    string = of("28", "06045601040b", of("a0", of("1b", octets)))
+    return of("af", of("a0", "060456010b0b", of("a0", sets)), string)
 
 
 def ipm(fields, *parts):
@@ -142,9 +143,9 @@ def try_answers():
     first = message("--subject", "Plan", BELL, WATT, "M1")
     replied = of("a5", OF_BELL, of("13", text("M1")))
     about = of("a8", of("14", text("Re: Plan")))
-    own = of("6b", OF_WATT, of("13", text("R1")))
+    own = of("6b", OF_WATT, of("13", text("RE1")))
     for source in (file("first", first), file("content", content_in(first))):
-        got = content_in(message("--reply", source, WATT, "R1"))
+        got = content_in(message("--reply", source, WATT, "RE1"))
         to_bell = of("a2", of("31", of("a0", OF_BELL)))
         want("a reply", got.hex(), of("a0", of("31", own, of("a0", OF_WATT), to_bell, replied, about), of("30", HI)))
         got = content_in(message("--forward", source, BELL, WATT, "M1"))
@@ -158,10 +159,11 @@ def try_answers():
         got = content_in(tool("message.py", "--discarded", source, WATT, "A2"))
         want("a non-receipt", got.hex(), of("a1", IDENTIFIED, of("a1", OF_WATT), of("a0", of("a0", of("80", "00")))))
     wished = file("wished", message("--reply-to", AIDE, BELL, WATT, "M2"))
-    want("to whom a reply goes", re.findall(r"^recipient .* (C=.*)", decoded(message("--reply", wished, WATT, "R2"))
-                                            , re.M), [AIDE])
+    lines = decoded(message("--reply", wished, WATT, "RE2"))
+    want("to whom a reply goes", re.findall(r"^recipient .* (C=.*)", lines, re.M), [AIDE])
     again = file("again", message("--subject", "RE: Plan", BELL, WATT, "M3"))
-    if "subject RE: Plan\n" not in tool("mta-ipm", octets=content_in(message("--reply", again, WATT, "R3"))).decode():
+    answer = content_in(message("--reply", again, WATT, "RE3"))
+    if "subject RE: Plan\n" not in tool("mta-ipm", octets=answer).decode():
         raise Wrong("a reply to a reply has another subject")
 
 
@@ -176,7 +178,8 @@ def try_reading():
     """What others send: Teletex, every field, a message that is forwarded with its files, and notifications."""
     teletex = of("a5", of("31"), of("30", of("14", "c865" + text(" and")), of("14", text("page 2"))))
     named = of("31", of("a0", of("80", text("Mr Watt"))))  # a free-form name
-    fields = [of("a1", of("31", OF_AIDE)), of("a2", of("31", of("a0", OF_WATT), of("81", "0680"), of("82", "ff")), named),
+    asked = of("31", of("a0", OF_WATT), of("81", "0680"), of("82", "ff"))
+    fields = [of("a1", of("31", OF_AIDE)), of("a2", asked, named),
               of("a6", IDENTIFIED), of("a7", of("6b", of("13", text("OTHER")))), of("8c", "01"), of("8d", "09"),
               of("8e", "ff")]
     got = tool("mta-ipm", octets=bytes.fromhex(ipm(fields, teletex))).decode()
@@ -225,8 +228,9 @@ def try_changed(seed):
     """Whatever octets become of a message, of a notification and of a report, they are read or refused."""
     choose = random.Random(seed)
     with open(f"{TOP}/samples/report-full.ber", "rb") as report:
-        sources = ((p22.message_of, content_in(message("--forward", file("whole", message(BELL, WATT, "M1")), "--receipt",
-                                                       "--subject", "S", BELL, WATT, "M2", octets="å".encode()))),
+        whole = file("whole", message(BELL, WATT, "M1"))
+        sources = ((p22.message_of, content_in(message("--forward", whole, "--receipt", "--subject", "S", BELL, WATT,
+                                                       "M2", octets="å".encode()))),
                    (notifications.notification_of, content_in(message("--discarded", "whole", WATT, "A1"))),
                    (reports.report_of, report.read()))
     for read, octets in sources:
@@ -275,7 +279,7 @@ def try_dissectors():
              ("importance: high (2)", "sensitivity: private (2)", "reply-recipients: 1 item", "expiry-time: 27-01-01",
               "reply-time: 26-12-31", "direct-reference: 2.6.1.4.11 (id-et-general-text)", "1... .... = rn: True",
               ".1.. .... = nrn: True", "subject: Über ø", "CharacterSetRegistration: 100")),
-            (message("--reply", first, "--forward", first, WATT, "R1"),
+            (message("--reply", first, "--forward", first, WATT, "RE1"),
              ("replied-to-IPM", "subject: Re: Plan", "user-relative-identifier: M1", "body: 2 items", "message (9)")),
             (message("--acknowledge", first, WATT, "A1"), ("receipt-fields", "receipt-time: ")),
             (message("--discarded", first, WATT, "A2"), ("non-receipt-reason: ipm-discarded (0)",)))
@@ -283,7 +287,8 @@ def try_dissectors():
         shown = dissected.text_of(apdu, MADE, TOP)
         if wrong := dissected.lacks(shown, lines):
             raise Wrong(f"Wireshark's dissector: {'; '.join(wrong)} in\n{shown}")
-    names = subprocess.run(["tshark", "-G", "values"], stdout=subprocess.PIPE, stderr=subprocess.DEVNULL).stdout.decode()
+    how = {"stdout": subprocess.PIPE, "stderr": subprocess.DEVNULL}
+    names = subprocess.run(["tshark", "-G", "values"], **how).stdout.decode()
     for field, table in (("non_delivery_reason_code", reports.REASONS),
                          ("non_delivery_diagnostic_code", reports.DIAGNOSTICS)):
         known = re.findall(rf"^V\tx411\.{field}\t(\d+)\t(.*)$|^V\tp1\.{field}\t(\d+)\t(.*)$", names, re.M)

@@ -1,8 +1,8 @@
 #!/usr/bin/env python3
 """Installs the documents, for install.sh: documents.py TOP FOLDER.
 
-Those of the repository at TOP come into FOLDER side by side, with the samples below it. A link between two of them leads
-from the one to the other there; a link to what is not installed, as to the code, becomes its text.
+Those of the repository at TOP come into FOLDER side by side, with the samples below it. A link between two of them
+leads from the one to the other there; a link to what is not installed, as to the code, becomes its text.
 """
 import os
 import re

@@ -4,8 +4,8 @@
 # them, the manual pages, the completion for bash, the units for systemd, the documents and the samples. FILE is the
 # program mta, and the others are those beside it; else each is the proved one that `rt ci` leaves at
 # crates/NAME/out/NAME or, where that is absent, the unproved one that ./demo leaves at out/unproved/NAME. With DESTDIR
-# in the environment all goes below that folder, as for a package. share/doc/mta/BUILT says which version, commit and kit
-# the programs are of, and whether they are proved. --remove leaves what an agent has: /var/lib/mta, /etc/mta,
+# in the environment all goes below that folder, as for a package. share/doc/mta/BUILT says of which version, commit and
+# kit the programs are, and whether they are proved. --remove leaves what an agent has: /var/lib/mta, /etc/mta,
 # /var/spool/mta-drop and the user.
 set -eu
 top=$(cd "$(dirname "$0")/.." && pwd)

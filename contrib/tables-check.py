@@ -2,8 +2,8 @@
 """Says in words what is wrong with a text of tables: every line of it, and not the first one alone.
 
 FILE is an mta.tables, or the agent's folder, or a file of mta_rehearse with the tables of several agents, a line ---
-between two. The judge is `mta submit < /dev/null`, which this tool runs on a copy in a folder of its own: status 2 and a
-line where the tables are bad, and 6, for the missing APDU, where they are good.
+between two. The judge is `mta submit < /dev/null`, which this tool runs on a copy in a folder of its own: status 2 and
+a line where the tables are bad, and 6, for the missing APDU, where they are good.
 
 Of several agents it also compares the two `peer` lines of each pair: the passwords, which each has to expect as the
 other sends it, and the modes; where sizes or windows differ it says which counts.
@@ -243,7 +243,7 @@ class Checker:
 
 
 class Texts:
-    """The texts of a file, each with a checker: one, or those of a rehearsal. `wrong` is what is wrong with the file."""
+    """The texts of a file, each with a checker: one, or those of a rehearsal. `wrong` is what is wrong with it all."""
 
     def __init__(self, path, octets):
         self.path, self.wrong, self.checkers, self.octets = path, [], [], []

@@ -33,7 +33,7 @@ if grep -qx 'programs UNPROVED' "$source/BUILT"; then
   sed -i "1s/($version)/($version~unproved)/" "$source/debian/changelog"
   sed -i -e '/^Description:/s/$/, UNPROVED/' -e '/^ All are written in Rattle/,/^ contract before it is built/d' \
     "$source/debian/control"
-  sed -i "s/^ \.$/ The programs of this package are UNPROVED: they are written in Rattle, and were\n built without their proofs, for a first look.\n ./" \
+  sed -i 's/^ \.$/ UNPROVED: the programs of this package are written in Rattle, and were built\n without proofs.\n ./' \
     "$source/debian/control"
 fi
 (cd "$source" && dpkg-buildpackage --build=binary --no-sign) >"$made/log" 2>&1 || { cat "$made/log" >&2; exit 1; }

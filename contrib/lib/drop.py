@@ -7,8 +7,8 @@ Why no file is lost, and none submitted twice, wherever the process, `mta submit
 
 1. A file goes by one `rename` from `in` to `taken`, where nobody can replace it, and from there by one `unlink`, or by
    one `rename` to `failed`. So at each moment it is in one of the three, or was removed.
-2. It is removed only where its item is in the spool to stay: after `accepted N`, which `mta submit` prints once the item
-   is durable; or where the spool is seen to have it, and was synced after that.
+2. It is removed only where its item is in the spool to stay: after `accepted N`, which `mta submit` prints once the
+   item is durable; or where the spool is seen to have it, and was synced after that.
 3. Before `mta submit` is run a note is made durable in `taken`: which file, the digest of its octets, how many items
    were submitted in the spool so far, and by what the last of them is known again. No file is taken while one is in
    `taken`, and the note goes before the next one is taken: so a note never speaks of another file of the same name.
@@ -267,8 +267,8 @@ class Drop:
         if not stat.S_ISREG(it.st_mode):
             return "no regular file"
         mode, owner, group = stat.S_IMODE(it.st_mode), office.user_name(it.st_uid), office.group_name(it.st_gid)
-        return (f"it may not be read by {office.user_name(os.geteuid())}: its mode is {mode:o}, of {owner} and {group}. "
-                f"mta-drop --put sets the mode")
+        return (f"it may not be read by {office.user_name(os.geteuid())}: its mode is {mode:o}, of {owner} and "
+                f"{group}. mta-drop --put sets the mode")
 
     def submit(self, name, octets):
         said = office.submit(self.program, self.folder, octets, self.seconds, (self.lock,))

@@ -39,7 +39,7 @@ class NoCharset(Exception):
 
 
 class IpmIdentifier:
-    """The identifier of an interpersonal message: its user's name, where it is given, and the user's own word for it."""
+    """The identifier of an interpersonal message: its user's name, where it is given, and the user's word for it."""
 
     def __init__(self, user, local):
         self.user, self.local = user, local
@@ -270,7 +270,8 @@ def add_extended(made, part):
             data = it
     reference, value = value_of(data)
     if reference == TEXT_DATA and not isinstance(value, bytes):
-        numbers = [it.number() for it in parameters[TEXT_PARAMETERS].children()] if TEXT_PARAMETERS in parameters else []
+        sets = parameters[TEXT_PARAMETERS].children() if TEXT_PARAMETERS in parameters else []
+        numbers = [it.number() for it in sets]
         made.texts.append(texts.of_general(numbers, value.octets()))
         return
     name = pathname_of(parameters[FILE_PARAMETERS]) if FILE_PARAMETERS in parameters else None
