@@ -18,6 +18,7 @@ from concurrent.futures import ThreadPoolExecutor
 TOP = os.path.dirname(os.path.dirname(os.path.abspath(__file__)))
 CONTRIB = f"{TOP}/contrib"
 sys.path.insert(0, f"{CONTRIB}/lib")
+import dissected  # noqa: E402
 import journal  # noqa: E402
 import p1  # noqa: E402
 import p22  # noqa: E402
@@ -324,8 +325,8 @@ def try_stations():
     if [re.sub(r" at \d+: .*", "", it) for it in lines] != [f"station 1 in {port} does not listen,",
                                                            f"station 2 out 127.0.0.1:{dead} is not reached,"]:
         raise Wrong(f"watch.sh: {lines}")
-    for line in lines:
-        if line not in said:
+    for line in lines:  # the two looks may be a second apart
+        if re.sub(r" at \d+:", "", line) not in re.sub(r" at \d+:", "", said):
             raise Wrong(f"check-mta --stations has no {line!r}: {said}")
 
 
@@ -598,23 +599,17 @@ def try_message():
 
 
 def by_wireshark(apdu):
-    if not all(shutil.which(it) for it in ("tshark", "text2pcap")):
+    if not dissected.is_there():
         print("skipped: tshark is not on the PATH")
         return
-    dump = "".join(f"{at:06x} {apdu[at:at + 16].hex(' ')}\n" for at in range(0, len(apdu), 16)).encode()
-    ran(["text2pcap", "-q", "-l", "147", "-", f"{MADE}/pcap"], octets=dump)
-    words = ["tshark", "-r", f"{MADE}/pcap", "-X", f"lua_script:{TOP}/checks/outside.lua", "-V"]
-    text = ran(words).decode()
+    text = dissected.text_of(apdu, MADE, TOP)
     # each of them stands in the dissector's text of the standard's part
-    for line in ("X.420 Information Object", "user-relative-identifier: B0001", "subject: A plan",
-                 "data: First line\\r\\nand the last one\\r\\n", "direct-reference: 2.6.1.4.12 (id-et-file-transfer)",
-                 "incomplete-pathname: 1 item", "one.bin", "two.txt", "primary-recipients: 2 items",
-                 "copy-recipients: 1 item", "body: 3 items", "LatestDeliveryTime: 27-01-01 00:00:00 (UTC)"):
-        if line not in text:
-            raise Wrong(f"Wireshark's dissector does not show {line!r} in\n{text}")
-    for bad in ("Malformed", "Dissector bug", "BER Error", "Unknown"):
-        if bad in text:
-            raise Wrong(f"Wireshark's dissector finds {bad!r} in\n{text}")
+    lines = ("X.420 Information Object", "user-relative-identifier: B0001", "subject: A plan",
+             "data: First line\\r\\nand the last one\\r\\n", "direct-reference: 2.6.1.4.12 (id-et-file-transfer)",
+             "incomplete-pathname: 1 item", "one.bin", "two.txt", "primary-recipients: 2 items",
+             "copy-recipients: 1 item", "body: 3 items", "LatestDeliveryTime: 27-01-01 00:00:00 (UTC)")
+    if wrong := dissected.lacks(text, lines):
+        raise Wrong(f"Wireshark's dissector: {'; '.join(wrong)} in\n{text}")
 
 
 # texts of tables, each with words that the tool has to say of it, or none where it is good
@@ -664,6 +659,51 @@ def try_tables():
         is_good = said.endswith("mta takes these tables\n")
         if is_good != (words is None) or bool(its_own) != (words is not None) or words and words not in said:
             raise Wrong(f"tables-check.py of {text}:\n{said}")
+
+
+def try_pairs():
+    """The two lines of each pair of agents are compared, and letters are shown as they are."""
+    def of(name, domain, peer):
+        return agent(f"pair-{name}", f"domain C=GB;A={domain}", f"name {name}", *([f"peer {peer}"] if peer else []))
+
+    one = of("ONE", "ONE", "TWO a b twa 16 3")
+    for line, words, status in (
+            ("ONE b a twa 16 3", "ONE and TWO agree", 0),
+            ("ONE b a twa 4 2", "checkpoint size 16 against 4, of which 4", 0),
+            ("ONE x a twa 16 3", "the password that TWO sends (line 3) is not the one that ONE expects (line 3)", 1),
+            ("ONE b x twa 16 3", "the password that ONE sends (line 3) is not the one that TWO expects (line 3)", 1),
+            ("ONE b a monologue 16 3", "TWO refuses the sessions that ONE calls", 1),
+            ("one b a twa 16 3", "ONE has the peer TWO, and TWO has no peer ONE", 1)):
+        said = tool("tables-check.py", "--mta", MTA, one, of("TWO", "TWO", line), status=status).decode()
+        if words not in said or said.count("mta takes these tables") != 2:
+            raise Wrong(f"tables-check.py of {line}: {said}")
+    want("a rehearsal", tool("tables-check.py", "--mta", MTA, f"{TOP}/samples/network.tables").decode(),
+         "mta takes these tables\nGOLD-1 and EAST agree\n")
+    text = sample("network.tables").replace(b"name EAST", b"name \xc3\x98ST")
+    with open(f"{MADE}/letters", "wb") as file:
+        file.write(text)
+    said = tool("tables-check.py", "--mta", MTA, f"{MADE}/letters", status=1).decode()
+    at = text[:text.index(b"name \xc3")].count(b"\n") + 1
+    if f"line {at}: an agent's name is 1 to 32 letters, digits or -, and not 'ØST'\nmta says: tables line {at} " \
+            not in said:
+        raise Wrong(f"tables-check.py of a letter: {said}")
+
+
+def try_refused():
+    """submit.sh takes nothing where it has no place to be, or to go to."""
+    post = agent("refused", *GOLD)
+    rows = [([f"{MADE}/nowhere", "SILVER-1"], 1, b"no such folder"), ([post, "OTHER"], 10, b"name no peer OTHER"),
+            ([post, "SILVER."], 10, b"name no peer")]
+    if os.geteuid() == 0:
+        theirs = agent("theirs", *GOLD)
+        os.chown(theirs, 65534, 65534)
+        rows.append(([theirs, "SILVER-1"], 1, b"belongs to"))
+    for words, status, line in rows:
+        ran_it = subprocess.run([f"{CONTRIB}/submit.sh", *words, "127.0.0.1", "1"], input=sample("message.ber"),
+                                stdout=subprocess.PIPE, stderr=subprocess.PIPE)
+        is_made = ran_it.stdout or os.path.exists(f"{words[0]}/mta.spool")
+        if ran_it.returncode != status or line not in ran_it.stderr or is_made:
+            raise Wrong(f"submit.sh {words}: {ran_it}")
 
 
 def try_submit():
@@ -744,7 +784,9 @@ def main():
              ("mta-apdu --pending", try_pending), ("mta-apdu, in doubt", try_doubt), ("a restored spool", try_restore),
              ("a snapshot", lambda: try_snapshot(1)), ("a snapshot of format 2", lambda: try_snapshot(2)),
              ("a direct copy", try_direct), ("message.py", try_message), ("tables-check.py", try_tables),
-             ("submit.sh", try_submit), ("fetch.py", try_fetch), ("contrib/README.md", try_readme))
+             ("pairs of agents", try_pairs),
+             ("submit.sh", try_submit), ("submit.sh where it may not be", try_refused),
+             ("fetch.py", try_fetch), ("contrib/README.md", try_readme))
     # each of these has files of its own
     with ThreadPoolExecutor(AT_ONCE) as pool:
         for job in [pool.submit(tried, *it) for it in tools]:

@@ -12,6 +12,12 @@ for tool in "$root"/usr/bin/*; do
   case $name in mta | mta_rehearse | mta_audit | mta_follow | mta_store) continue ;; esac
   "$tool" --help >/dev/null || fails "$name --help ended with $?"
 done
+said=$(python3 checks/links.py "$root/usr/share/doc/mta") || fails "links of documents lead nowhere: $said"
+grep -qx 'programs \(proved\|UNPROVED\)' "$root/usr/share/doc/mta/BUILT" || fails "BUILT does not say what is proved"
+for name in mta-message mta-tables-check mta-drop mta-submit; do
+  said=$("$root/usr/bin/$name" 2>&1 </dev/null)
+  case $said in "usage: $name "*) ;; *) fails "$name calls itself otherwise: $said" ;; esac
+done
 grep -rq '@BIN@\|@LIB@' "$root/usr/lib" && fails "a unit names no place"
 if command -v systemd-analyze >/dev/null; then
   # the units' programs and pages are looked for at their places, so they are put there for this, below a prefix that
@@ -20,9 +26,9 @@ if command -v systemd-analyze >/dev/null; then
   contrib/install.sh --program "$mta" "$place" >/dev/null || fails "a prefix of its own: status $?"
   units=$place/lib/systemd/system
   said=$(MANPATH=$place/share/man: systemd-analyze verify --man=yes "$units"/mta{@,-failed@,-again@,-standby@}.service \
-    "$units"/mta-{call,watch,follow}@.timer 2>&1) || said="status $?: $said"
+    "$units"/mta-{call,watch,follow}@.timer "$units"/mta-drop@.path 2>&1) || said="status $?: $said"
   [ -z "$said" ] || fails "systemd-analyze verify: $said"
-  for unit in mta@GOLD mta-call@GOLD mta-watch@GOLD mta-failed@mta@GOLD.service mta-follow@GOLD mta-standby@GOLD; do
+  for unit in mta@GOLD mta-call@GOLD mta-watch@GOLD mta-failed@mta@GOLD.service mta-follow@GOLD mta-standby@GOLD mta-drop@GOLD; do
     # 20 is an exposure of 2.0, "OK"
     systemd-analyze security --offline=true --threshold=20 --root="$root" "$unit.service" >/dev/null 2>&1 ||
       fails "systemd-analyze security: $unit is exposed"

@@ -25,6 +25,15 @@ got=$(cd "$made" && cp mta.spool copy.spool && root/usr/bin/mta_audit mta.spool 
 [ "$got" = "status 0" ] || { echo "the installed mta_audit: $got"; wrong=1; }
 got=$(cd "$made" && root/usr/bin/mta_store list watt | sed -E 's/[0-9]{12}Z/T/')
 [ "$got" = "1 new T item 1" ] || { echo "the installed mta_store: $got"; wrong=1; }
+said=$(python3 checks/links.py "$made/root/usr/share/doc/mta") || { echo "links lead nowhere: $said"; wrong=1; }
+proved=$(sed -n 's/^programs //p' "$made/root/usr/share/doc/mta/BUILT")
+shown=$(dpkg-deb -f "$package" Version Description)
+case $proved,$shown in
+  UNPROVED,*~unproved*UNPROVED*) ;;
+  proved,*[Uu][Nn][Pp][Rr][Oo][Vv][Ee][Dd]*) echo "the package of proved programs says: $shown"; wrong=1 ;;
+  proved,*) ;;
+  *) echo "the package of $proved programs says: $shown"; wrong=1 ;;
+esac
 for command in "$made"/root/usr/bin/*; do
   name=$(basename "$command")
   [ -e "$made/root/usr/share/man/man1/$name.1.gz" ] || { echo "$name has no page"; wrong=1; }

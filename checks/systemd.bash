@@ -92,7 +92,7 @@ steps() {
   # the manual's block, in a folder with the tables of GOLD
   mkdir -p /root/try
   cp "$sample/GOLD/mta.tables" /root/try/
-  block=$(sed -n '/^\*\*Under systemd/,/^\*\*Handing/s/^    //p' docs/MANUAL.md)
+  block=$(sed -n '/^\*\*Under systemd/,/^### Handing/s/^    //p' docs/MANUAL.md)
   [ -n "$block" ] || fails "the manual has no block"
   (cd /root/try && bash -e -c "$block") || fails "the manual's block ended with $?"
   until_so 20 test -s /var/lib/mta/GOLD/mta.stations || fails "GOLD does not serve: $(systemctl status mta@GOLD)"

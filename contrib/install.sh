@@ -4,14 +4,15 @@
 # them, the manual pages, the completion for bash, the units for systemd, the documents and the samples. FILE is the
 # program mta, and the others are those beside it; else each is the proved one that `rt ci` leaves at
 # crates/NAME/out/NAME or, where that is absent, the unproved one that ./demo leaves at out/unproved/NAME. With DESTDIR
-# in the environment all goes below that folder, as for a package. --remove leaves what an agent has: /var/lib/mta,
-# /etc/mta and the user.
+# in the environment all goes below that folder, as for a package. share/doc/mta/BUILT says of which version, commit and
+# kit the programs are, and whether they are proved. --remove leaves what an agent has: /var/lib/mta, /etc/mta,
+# /var/spool/mta-drop and the user.
 set -eu
 top=$(cd "$(dirname "$0")/.." && pwd)
 remove=no program="" prefix=/usr/local
 while [ $# -gt 0 ]; do
   case $1 in
-    --help) sed -n '2,8s/^# //p' "$0"; exit 0 ;;
+    --help) sed -n '2,10s/^# //p' "$0"; exit 0 ;;
     --remove) remove=yes ;;
     --program) program=${2:?--program FILE}; shift ;;
     -*) echo "install.sh: $1 is no option; see --help" >&2; exit 1 ;;
@@ -23,17 +24,20 @@ case $prefix in /*) ;; *) echo "install.sh: PREFIX is a path from the root, and 
 root=${DESTDIR:-}$prefix
 share=$prefix/share/mta
 units="mta@.service mta-call@.service mta-call@.timer mta-watch@.service mta-watch@.timer mta-failed@.service
-  mta-again@.service mta-follow@.service mta-follow@.timer mta-standby@.service"
+  mta-again@.service mta-follow@.service mta-follow@.timer mta-standby@.service mta-drop@.path mta-drop@.service"
 # the tools as commands, each with its file
 tools="mta-log=mta-log mta-look=mta-look mta-apdu=mta-apdu mta-content=mta-content mta-ipm=mta-ipm check-mta=check-mta
   mta-message=message.py mta-fetch=fetch.py mta-tables-check=tables-check.py mta-submit=submit.sh
-  mta-watch=watch.sh"
+  mta-watch=watch.sh mta-drop=mta-drop mta-report=mta-report"
+# commands whose completion is that of all tools
+completed="mta-message mta-ipm mta-report mta-content mta-submit mta-drop mta-tables-check mta-apdu mta_store mta_follow
+  mta_audit"
 
 if [ "$remove" = yes ]; then
   for tool in $tools; do rm -f "$root/bin/${tool%%=*}" "$root/share/man/man1/${tool%%=*}.1"; done
   for unit in $units; do rm -f "$root/lib/systemd/system/$unit"; done
   for page in "$top"/man/*; do rm -f "$root/share/man/man${page##*.}/$(basename "$page")"; done
-  for name in mta mta-look mta-log; do rm -f "$root/share/bash-completion/completions/$name"; done
+  for name in mta mta-look mta-log mta-tools $completed; do rm -f "$root/share/bash-completion/completions/$name"; done
   rm -rf "$root/share/mta" "$root/share/doc/mta"
   rm -f "$root/bin/mta" "$root/bin/mta_rehearse" "$root/bin/mta_audit" "$root/bin/mta_follow" "$root/bin/mta_store"
   rm -f "$root/lib/sysusers.d/mta.conf" "$root/lib/tmpfiles.d/mta.conf"
@@ -68,20 +72,20 @@ done
 for page in "$top"/man/*; do put "share/man/man${page##*.}/$(basename "$page")" "$page"; done
 put share/bash-completion/completions/mta "$top/contrib/completion/mta"
 for name in mta-look mta-log; do ln -sf mta "$root/share/bash-completion/completions/$name"; done
+put share/bash-completion/completions/mta-tools "$top/contrib/completion/mta-tools"
+for name in $completed; do ln -sf mta-tools "$root/share/bash-completion/completions/$name"; done
 for unit in $units; do put_filled "lib/systemd/system/$unit" "$top/contrib/systemd/$unit"; done
 put lib/sysusers.d/mta.conf "$top/contrib/systemd/mta.sysusers"
 put lib/tmpfiles.d/mta.conf "$top/contrib/systemd/mta.tmpfiles"
-for file in README.md docs/MANUAL.md docs/PROTOCOL.md docs/PROVED.md docs/p1.asn1 contrib/wireshark/mta.lua; do
-  put "share/doc/mta/$(basename "$file")" "$top/$file"
-done
-# samples/spools is for checks alone
-for file in "$top"/samples/*.*; do put "share/doc/mta/samples/$(basename "$file")" "$file"; done
-for name in GOLD POST SILVER; do
-  put "share/doc/mta/sample/$name/mta.tables" "$top/contrib/sample/$name/mta.tables"
-done
+python3 "$top/contrib/documents.py" "$top" "$root/share/doc/mta"
+built >"$root/share/doc/mta/BUILT"
+chmod 644 "$root/share/doc/mta/BUILT"
 
 if [ -z "${DESTDIR:-}" ]; then
   echo "mta is in $prefix, its documents are in $prefix/share/doc/mta."
+  if grep -qx 'programs UNPROVED' "$root/share/doc/mta/BUILT"; then
+    echo "Its programs are UNPROVED: they were built without their proofs, for a first look."
+  fi
   case $prefix in
     /usr | /usr/local) echo "For agents under systemd go on with MANUAL.md there, \"Serving\"." ;;
     *) echo "Its commands are found after: PATH=$prefix/bin:\$PATH" ;;

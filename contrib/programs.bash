@@ -17,3 +17,20 @@ follow=$(found mta_follow)
 store=$(found mta_store)
 [ -n "$program" ] || program=$(found mta)
 [ -x "$program" ] || { echo "$(basename "$0"): $program is no program" >&2; exit 1; }
+
+# prints what the programs are: version, commit, kit, and whether each was proved. A package's source has it beside them
+built() {
+  local name file proved=proved commit kit
+  if [ -e "$(dirname "$program")/BUILT" ]; then cat "$(dirname "$program")/BUILT"; return; fi
+  for file in "$program" "$rehearse" "$audit" "$follow" "$store"; do
+    name=$(basename "$file")
+    cmp -s "$file" "$top/crates/$name/out/$name" || proved=UNPROVED
+  done
+  commit=$(git -C "$top" rev-parse HEAD 2>/dev/null) || commit=unknown
+  [ -z "$(git -C "$top" status --porcelain 2>/dev/null)" ] || commit="$commit, with changes"
+  kit=$(rt version 2>/dev/null | head -n 1)
+  echo "version $(sed -n '1s/.*(\(.*\)).*/\1/p' "$top/packaging/debian/changelog" 2>/dev/null)"
+  echo "commit $commit"
+  echo "kit ${kit:-unknown}"
+  echo "programs $proved"
+}

@@ -1,10 +1,16 @@
 #!/usr/bin/env python3
 """Says in words what is wrong with a text of tables: every line of it, and not the first one alone.
 
-FILE is an mta.tables, or the agent's folder. The judge is `mta submit < /dev/null`, which this tool runs on a copy in
-a folder of its own: status 2 and a line where the tables are bad, and 6, for the missing APDU, where they are good.
-The tool's status is 0 where nothing is wrong, 1 where something is, and 2 where the file cannot be read.
+FILE is an mta.tables, or the agent's folder, or a file of mta_rehearse with the tables of several agents, a line ---
+between two. The judge is `mta submit < /dev/null`, which this tool runs on a copy in a folder of its own: status 2 and
+a line where the tables are bad, and 6, for the missing APDU, where they are good.
+
+Of several agents it also compares the two `peer` lines of each pair: the passwords, which each has to expect as the
+other sends it, and the modes; where sizes or windows differ it says which counts.
+
+The tool's status is 0 where nothing is wrong, 1 where something is, and 2 where a file cannot be read.
 """
+import itertools
 import os
 import re
 import shutil
@@ -17,6 +23,7 @@ import p1  # noqa: E402
 import tool  # noqa: E402
 
 TABLES = "mta.tables"
+BETWEEN = "---"  # a line between the tables of two agents, in a file of mta_rehearse
 LONGEST = 1048576
 WORD = re.compile(r"[A-Za-z0-9-]{1,32}")
 PASSWORD = re.compile(r"[!-~]{1,62}")
@@ -33,11 +40,20 @@ ENDS_IN_NAME = ("domain", "mailbox", "list", "member", "from")
 PATTERN_PARTS = ("C", "A", "P", "O", "OU")
 
 
-class Checker:
-    """Goes over the lines. `wrong` has the number of each bad line and what is wrong with it."""
+class Peer:
+    """What a `peer` line says."""
 
-    def __init__(self):
-        self.wrong, self.seen, self.words, self.counts = [], {}, {}, {}
+    def __init__(self, number, out, into, mode, size, window):
+        self.number, self.out, self.into, self.mode, self.size, self.window = number, out, into, mode, size, window
+
+
+class Checker:
+    """Goes over the lines of an agent's tables, of which the first has this number. `wrong` has the number of each bad
+    line and what is wrong with it, `agent` the agent's name, and `peers` what the good `peer` lines say."""
+
+    def __init__(self, first=1):
+        self.first, self.wrong, self.seen, self.counts = first, [], {}, {}
+        self.agent, self.peers = None, {}
 
     def say(self, number, text):
         self.wrong.append((number, text))
@@ -54,22 +70,12 @@ class Checker:
 
     # ---- the text
 
-    def text(self, octets):
-        if len(octets) > LONGEST:
-            self.say(1, f"the text has {len(octets)} octets, and at most {LONGEST} are read")
-        if octets.startswith(b"\xef\xbb\xbf"):
-            self.say(1, "the file begins with a byte order mark; save it as ASCII, or UTF-8 without one")
-            octets = octets[3:]
-        lines = octets.decode("latin-1").split("\n")
-        if lines[-1]:
-            self.say(len(lines), "the last line has no line feed at its end")
-        else:
-            lines.pop()
-        for number, line in enumerate(lines, 1):
+    def lines(self, lines):
+        for number, line in enumerate(lines, self.first):
             self.line(number, line)
         for key in ("domain", "name"):
             if key not in self.counts:
-                self.say(len(lines) + 1, f"no line has `{key} {LINES[key]}`")
+                self.say(self.first + len(lines), f"no line has `{key} {LINES[key]}`")
 
     def line(self, number, line):
         if line.endswith("\r"):
@@ -158,6 +164,7 @@ class Checker:
         self.once(number, "name", "the agent's name")
         self.counts["name"] += 1
         self.word(number, rest, "an agent's name")
+        self.agent = self.agent or rest
 
     def line_peer(self, number, rest):
         words = rest.split(" ")
@@ -175,6 +182,8 @@ class Checker:
         self.number(number, window, 1, 8, "the window")
         self.once(number, ("peer", peer), f"the peer {peer}")
         self.count(number, "peer", MOST["peer"], "peers")
+        if NUMBER.fullmatch(size) and NUMBER.fullmatch(window):
+            self.peers.setdefault(peer, Peer(number, out, into, mode, int(size), int(window)))
 
     def box(self, number, kind, word, name):
         self.word(number, word, f"the word of a {kind}")
@@ -230,6 +239,58 @@ class Checker:
             self.once(number, ("hold", words[0]), f"the hold time of {words[0]}")
 
 
+# ---- files
+
+
+class Texts:
+    """The texts of a file, each with a checker: one, or those of a rehearsal. `wrong` is what is wrong with it all."""
+
+    def __init__(self, path, octets):
+        self.path, self.wrong, self.checkers, self.octets = path, [], [], []
+        if len(octets) > LONGEST:
+            self.wrong.append((1, f"the text has {len(octets)} octets, and at most {LONGEST} are read"))
+        if octets.startswith(b"\xef\xbb\xbf"):
+            self.wrong.append((1, "the file begins with a byte order mark; save it as ASCII, or UTF-8 without one"))
+        lines = self.lines_of(octets.removeprefix(b"\xef\xbb\xbf"))
+        places = [at for at, line in enumerate(lines) if line == BETWEEN] + [len(lines)]
+        # the judge has the octets as they are
+        raw, first = octets.split(b"\n"), 0
+        for last in places:
+            self.add(lines[first:last], b"\n".join(raw[first:last]), first + 1, last == len(lines))
+            first = last + 1
+
+    def lines_of(self, octets):
+        """The lines, whose letters are those of UTF-8 where they can be."""
+        try:
+            lines = octets.decode("utf-8").split("\n")
+        except UnicodeDecodeError:
+            lines = octets.decode("latin-1").split("\n")
+        self.has_end = not lines[-1]
+        if self.has_end:
+            lines.pop()
+        else:
+            self.wrong.append((len(lines), "the last line has no line feed at its end"))
+        return lines
+
+    def add(self, lines, octets, first, is_last):
+        checker = Checker(first)
+        checker.lines(lines)
+        self.checkers.append(checker)
+        self.octets.append(octets + (b"\n" if lines and (self.has_end or not is_last) else b""))
+
+    def all_wrong(self):
+        return sorted(self.wrong + [it for checker in self.checkers for it in checker.wrong])
+
+    def judged(self, program):
+        """What `mta` says of the first text that it does not take, with the line's number in the file; None where it
+        takes all."""
+        for checker, octets in zip(self.checkers, self.octets):
+            line = judged(program, octets)
+            if line is not None:
+                return re.sub(r"^tables line (\d+)", lambda it: f"tables line {int(it[1]) + checker.first - 1}", line)
+        return None
+
+
 def judged(program, octets):
     """What `mta` says of the tables: its line, or None where it takes them."""
     with tempfile.TemporaryDirectory(prefix="tables-check-") as made:
@@ -240,25 +301,78 @@ def judged(program, octets):
     return None if ran.returncode == 6 else ran.stdout.decode("latin-1").strip()
 
 
+# ---- pairs of agents
+
+
+def wrong_of_sender(one, other, its, theirs):
+    """What is wrong where the one calls the other or sends to it, by their lines on each other."""
+    if its.out != theirs.into:
+        yield (f"the password that {one} sends (line {its.number}) is not the one that {other} expects "
+               f"(line {theirs.number})")
+    if (its.mode, theirs.mode) == ("twa", "monologue"):
+        yield f"{other} refuses the sessions that {one} calls: its mode is monologue, and that of {one} is twa"
+
+
+def said_of_pair(one, other):
+    """What is wrong between two agents, and what there is to know."""
+    its, theirs = one.peers.get(other.agent), other.peers.get(one.agent)
+    if its is None or theirs is None:
+        lacks, has = (one, other) if its is None else (other, one)
+        return [f"{has.agent} has the peer {lacks.agent}, and {lacks.agent} has no peer {has.agent}"], []
+    wrong = [*wrong_of_sender(one.agent, other.agent, its, theirs),
+             *wrong_of_sender(other.agent, one.agent, theirs, its)]
+    known = [f"{what} {mine} against {other_s}, of which {min(mine, other_s)} counts"
+             for what, mine, other_s in (("checkpoint size", its.size, theirs.size),
+                                         ("window", its.window, theirs.window)) if mine != other_s]
+    return wrong, known
+
+
+def compare(checkers):
+    """Prints what there is to say of each pair of agents that know each other; whether anything is wrong."""
+    is_wrong = False
+    for one, other in itertools.combinations([it for it in checkers if it.agent], 2):
+        if one.agent == other.agent:
+            wrong, known = [f"two agents have the name {one.agent}"], []
+        elif other.agent in one.peers or one.agent in other.peers:
+            wrong, known = said_of_pair(one, other)
+        else:
+            continue
+        is_wrong = is_wrong or bool(wrong)
+        for line in wrong + known or ["agree"]:
+            print(f"{one.agent} and {other.agent} agree" if line == "agree" else
+                  f"{one.agent} and {other.agent}: {line}")
+    return is_wrong
+
+
+def said_of_file(texts, program, before):
+    """Prints what there is to say of a file; whether anything is wrong."""
+    wrong = texts.all_wrong()
+    for number, text in wrong:
+        print(f"{before}line {number}: {text}")
+    if program is None:
+        print(f"{before}mta is not on the PATH, so it did not judge")
+        return bool(wrong)
+    line = texts.judged(program)
+    print(before + (f"mta says: {line}" if line else "mta takes these tables"))
+    return bool(wrong or line)
+
+
+def read(word):
+    path = os.path.join(word, TABLES) if os.path.isdir(word) else word
+    with open(path, "rb") as file:
+        return Texts(word, file.read())
+
+
 def main():
     it = tool.parser("tables-check.py", __doc__)
-    it.add_argument("file", metavar="FILE")
+    it.add_argument("files", metavar="FILE", nargs="+")
     it.add_argument("--mta", metavar="PROGRAM", default="mta", help="the judge; mta of the PATH where it is absent")
     said = it.parse_args()
-    path = os.path.join(said.file, TABLES) if os.path.isdir(said.file) else said.file
-    with open(path, "rb") as file:
-        octets = file.read()
-    checker = Checker()
-    checker.text(octets)
-    for number, text in sorted(checker.wrong):
-        print(f"line {number}: {text}")
     program = os.path.abspath(said.mta) if os.sep in said.mta else shutil.which(said.mta)
-    if program is None:
-        print("mta is not on the PATH, so it did not judge")
-        sys.exit(bool(checker.wrong))
-    line = judged(program, octets)
-    print(f"mta says: {line}" if line else "mta takes these tables")
-    sys.exit(bool(checker.wrong or line))
+    files = [read(word) for word in said.files]
+    is_wrong = [said_of_file(each, program, f"{each.path}: " if len(files) > 1 else "") for each in files]
+    is_wrong.append(compare([checker for each in files for checker in each.checkers]))
+    sys.exit(any(is_wrong))
 
 
 tool.run("tables-check.py", main)
