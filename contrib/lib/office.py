@@ -14,7 +14,7 @@ import x690 as ber
 TABLES, SPOOL = "mta.tables", "mta.spool"
 BAD_APDU = 6  # the status of `mta submit` for octets that are no APDU
 DISK_FAULT = 4
-FAILED_MARK = "mta.failed"  # made in the folder after a fault of the disk: while it is there nothing calls mta by itself
+FAILED_MARK = "mta.failed"  # in the folder after a fault of the disk: nothing calls mta by itself then
 
 
 class Refused(Exception):
