@@ -6,7 +6,6 @@ there is one (mta-archive). Where the counts of the snapshot are others than tho
 and a notice says so. A file that was put in the place of the spool is another spool, told from its beginning; what the
 former one still had is told first.
 """
-import glob
 import hashlib
 import os
 import time
@@ -16,9 +15,9 @@ import journal
 import state
 import stations
 import steps
+from archives import archives_in
 
 HEAD = 4096  # octets of the beginning of a history by which it is known again
-ARCHIVED = ".spool"  # how the name of an archive ends
 
 
 class Another(Exception):
@@ -134,11 +133,6 @@ def has_place(path, place):
         it.close()
 
 
-def archives_in(folder):
-    """The archives of a folder, the oldest one first."""
-    return sorted(glob.glob(os.path.join(glob.escape(folder), f"*{ARCHIVED}"))) if folder else []
-
-
 class Follower:
     """All that is there and was not told. `told` is the place up to which it was, None for nothing; `archive` a folder
     with archives. `place` is the place behind what was given last."""
@@ -197,7 +191,7 @@ class Follower:
 
     def to_read(self):
         """The files to be read: from the last one that has what was told on, or from the first one behind it."""
-        files = [*archives_in(self.archive), self.path]
+        files = [*(archives_in(self.archive) if self.archive else ()), self.path]
         if self.told is None:
             return files[-1:]
         having = [at for at, it in enumerate(files) if has_place(it, self.told)]
