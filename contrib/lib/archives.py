@@ -16,9 +16,13 @@ DAY = 86400
 MARGIN = 0.9  # of the octets that a snapshot is reckoned to have, so that no archive is left out
 
 
+def is_archive(path):
+    return path.endswith(ENDING) and os.path.basename(path) != copies.SPOOL
+
+
 def archives_in(folder):
     """The archives of a folder, the oldest one first."""
-    return sorted(glob.glob(os.path.join(glob.escape(folder), f"*{ENDING}")))
+    return sorted(it for it in glob.glob(os.path.join(glob.escape(folder), f"*{ENDING}")) if is_archive(it))
 
 
 def sync_folder(folder):
@@ -51,7 +55,7 @@ class Spool:
     def may_shrink(self, looked):
         """Whether the next opening may make it shrink; and what is to be kept of this look. A spool of which is known
         that too much of it stays is not read."""
-        if not self.journal.is_open() or self.journal.size() < survey.LEAST:
+        if not self.journal.is_open() or self.journal.size() < survey.LEAST or not self.journal.said_areas():
             return False, looked
         key = self.key()
         if looked.get("key") == key and 2 * looked["least"] * MARGIN > self.journal.size():

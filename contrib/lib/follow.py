@@ -1,10 +1,10 @@
 """Follows the spool of an agent over all that becomes of its file, so that each step is told once.
 
 What was told is a place: how the history begins, where its last record stands, and which octets that has. A spool that
-shrinks begins with a snapshot of what its records led to; what these had after the place is taken from an archive, where
-there is one (mta-archive). Where the counts of the snapshot are others than those of what was told, steps are missing,
-and a notice says so. A file that was put in the place of the spool is another spool, told from its beginning; what the
-former one still had is told first.
+shrinks begins with a snapshot of what its records led to; what these had after the place is taken from an archive,
+where there is one (mta-archive). Where the counts of the snapshot are others than those of what was told, steps are
+missing, and a notice says so. A file that was put in the place of the spool is another spool, told from its beginning;
+what the former one still had is told first.
 """
 import hashlib
 import os

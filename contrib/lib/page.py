@@ -62,13 +62,15 @@ def figure(minutes):
     most = max(1, max(max(it) for it in minutes.values()))
     down = HEIGHT - BELOW
     parts = [f'<line x1="{LEFT}" y1="{y}" x2="{WIDTH}" y2="{y}" stroke="#ccc"/>\n' for y in (8, down)]
-    parts += [f'<text x="{LEFT - 6}" y="{y + 4}" text-anchor="end">{value}</text>\n' for y, value in ((8, most), (down, 0))]
+    parts += [f'<text x="{LEFT - 6}" y="{y + 4}" text-anchor="end">{value}</text>\n'
+              for y, value in ((8, most), (down, 0))]
     for minute in range(0, MINUTES + 1, 15):
-        x = LEFT + minute * (WIDTH - LEFT) / MINUTES
-        parts.append(f'<text x="{x:.0f}" y="{HEIGHT - 6}" text-anchor="{"end" if minute == MINUTES else "middle"}">'
-                     f'{minute - MINUTES if minute < MINUTES else "now"} min</text>\n'.replace("now min", "now"))
+        x, is_now = LEFT + minute * (WIDTH - LEFT) / MINUTES, minute == MINUTES
+        parts.append(f'<text x="{x:.0f}" y="{HEIGHT - 6}" text-anchor="{"end" if is_now else "middle"}">'
+                     f'{"now" if is_now else f"{minute - MINUTES} min"}</text>\n')
     parts += [curve(minutes[word], most, colour) for word, colour in CURVES]
-    key = " ".join(f'<span style="color:{colour}">&#9632;</span> {word} {sum(minutes[word])}' for word, colour in CURVES)
+    key = " ".join(f'<span style="color:{colour}">&#9632;</span> {word} {sum(minutes[word])}'
+                   for word, colour in CURVES)
     box = f'<svg viewBox="0 0 {WIDTH} {HEIGHT}" width="{WIDTH}" height="{HEIGHT}" role="img">'
     return f"<figure>{box}\n{''.join(parts)}</svg><figcaption>{key}, by the minute</figcaption></figure>\n"
 
@@ -96,8 +98,9 @@ def peer_rows(queue):
 
 def station_rows(found):
     for it in found:
-        state = f"ended, {it.ended}" if it.ended != "-" else "listens" if it.since else "calls" if it.kind == "out" else (
-            "does not listen")
+        state = "calls" if it.kind == "out" else "listens" if it.since else "does not listen"
+        if it.ended != "-":
+            state = f"ended, {it.ended} at {journal.clock_text(it.ended_at)}"
         error = f"{journal.clock_text(it.error_at)} {it.why}" if it.error_at else ""
         last = f"{it.peer} {journal.clock_text(it.session_at)}" if it.session_at else "-"
         yield it.number, f"{it.kind} {it.name}", state, it.sessions, it.waiting, last, error

@@ -64,13 +64,13 @@ def stations_in(folder):
 
 
 def not_well(stations, now, span=300):
-    """What is wrong with stations, a line for each thing. One that has had all of its sessions is well."""
+    """What is wrong with stations, a line for each thing. One that has had all of its sessions is well where its
+    process has ended with it."""
     for it in stations:
         why = f"at {it.error_at}: {it.why}"
-        if it.ended in ("given-up", "refused"):
-            yield f"{it.title()} has ended, {it.ended} at {it.ended_at}; {why}"
-        elif it.ended == "served":
-            continue
+        if it.ended != "-":
+            if it.ended != "served" or lives(it.process):
+                yield f"{it.title()} has ended ({it.ended}), at {it.ended_at}"
         elif it.kind == "in" and it.since == 0:
             yield f"{it.title()} does not listen, {why}"
         elif it.kind == "out" and it.error_at > it.session_at:
@@ -196,7 +196,7 @@ def refused(stations, calls, now=None):
 
 
 def rows_of_sockets():
-    """The rows of the system's tables of TCP sockets: the port, the state, the queue of what was not taken, the inode."""
+    """The rows of the system's tables of TCP sockets: port, state, the queue of what was not taken, inode."""
     for path in ("/proc/net/tcp", "/proc/net/tcp6"):
         try:
             with open(path, encoding="ascii") as file:

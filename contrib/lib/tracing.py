@@ -1,8 +1,8 @@
 """What became of one message, over agents: events from their spools, from archives of these, and from logs.
 
-An event is what an agent did at a moment: `taken`, `routed` to a peer, `sent`, `delivered`, `expanded` and so on, for an
-item, or for a recipient of it. The same event may stand in several sources, so it is known by its agent, its word, its
-item, its recipient and its moment.
+An event is what an agent did at a moment: `taken`, `routed` to a peer, `sent`, `delivered`, `expanded` and so on, for
+an item, or for a recipient of it. The same event may stand in several sources, so it is known by its agent, its word,
+its item, its recipient and its moment.
 """
 import json
 import os
@@ -247,7 +247,7 @@ def is_spool(path):
 
 
 def files_of(word):
-    """The files of a word: of an agent's folder its spool, and the archive beside it; of an archive all; else a file."""
+    """The files of a word: of an agent's folder its spool, and the archive beside it; of an archive all of it."""
     if not os.path.isdir(word):
         return [word]
     found = archives.archives_in(word)
@@ -265,7 +265,7 @@ def events_in(path, wanted):
         return list(of_log(path, wanted))
     for _ in range(copies.TRIES):
         try:
-            return list(Traced(path, wanted, not path.endswith(archives.ENDING)).events())
+            return list(Traced(path, wanted, not archives.is_archive(path)).events())
         except journal.WrittenAnew:
             continue
     raise journal.NotASpool(f"{path} was written anew while it was read")

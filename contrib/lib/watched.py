@@ -62,7 +62,7 @@ class Seen:
             self.pending, self.oldest = self.pending + 1, max(self.oldest, int(age))
         self.octets = its.octets()
         self.full = 100 * self.octets / journal.MOST
-        self.shrinks_to = seen.shrinks_to(self.octets)
+        self.shrinks_to = seen.shrinks_to(self.octets) if its.areas else None  # one of one area never shrinks
         self.counts, self.opened = seen.counts, left.opened
         self.items, self.lanes = len(left.items), len(left.lanes)
         first = now - self.ahead - 3600 * self.hours
@@ -99,7 +99,7 @@ def quoted(text):
 
 
 class Metrics:
-    """A text of metrics, as Prometheus reads it: each with its help and type once, and a line for each of its values."""
+    """A text of metrics, as Prometheus reads it: each with its help and type once, and a line for each value."""
 
     def __init__(self, agent):
         self.agent, self.lines = agent, []
