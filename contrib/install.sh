@@ -28,12 +28,16 @@ units="mta@.service mta-call@.service mta-call@.timer mta-watch@.service mta-wat
 tools="mta-log=mta-log mta-look=mta-look mta-apdu=mta-apdu mta-content=mta-content mta-ipm=mta-ipm check-mta=check-mta
   mta-message=message.py mta-fetch=fetch.py mta-tables-check=tables-check.py mta-submit=submit.sh
   mta-watch=watch.sh"
+# those by which an agent is watched and its mailboxes are read, and their completion
+watching="mta-log mta-look check-mta mta-box mta-fetch mta-archive mta-trace"
+tools="$tools mta-box=mta-box mta-archive=mta-archive mta-trace=mta-trace"
+units="$units mta-log@.service mta-archive@.service mta-archive@.timer"
 
 if [ "$remove" = yes ]; then
   for tool in $tools; do rm -f "$root/bin/${tool%%=*}" "$root/share/man/man1/${tool%%=*}.1"; done
   for unit in $units; do rm -f "$root/lib/systemd/system/$unit"; done
   for page in "$top"/man/*; do rm -f "$root/share/man/man${page##*.}/$(basename "$page")"; done
-  for name in mta mta-look mta-log; do rm -f "$root/share/bash-completion/completions/$name"; done
+  for name in mta $watching; do rm -f "$root/share/bash-completion/completions/$name"; done
   rm -rf "$root/share/mta" "$root/share/doc/mta"
   rm -f "$root/bin/mta" "$root/bin/mta_rehearse" "$root/bin/mta_audit" "$root/bin/mta_follow" "$root/bin/mta_store"
   rm -f "$root/lib/sysusers.d/mta.conf" "$root/lib/tmpfiles.d/mta.conf"
@@ -67,7 +71,12 @@ for tool in $tools; do
 done
 for page in "$top"/man/*; do put "share/man/man${page##*.}/$(basename "$page")" "$page"; done
 put share/bash-completion/completions/mta "$top/contrib/completion/mta"
-for name in mta-look mta-log; do ln -sf mta "$root/share/bash-completion/completions/$name"; done
+put share/bash-completion/completions/mta-log "$top/contrib/completion/watching"
+for name in $watching; do
+  [ "$name" = mta-log ] || ln -sf mta-log "$root/share/bash-completion/completions/$name"
+done
+put share/doc/mta/sudoers "$top/contrib/sudoers"
+put share/doc/mta/grafana/mta.json "$top/contrib/grafana/mta.json"
 for unit in $units; do put_filled "lib/systemd/system/$unit" "$top/contrib/systemd/$unit"; done
 put lib/sysusers.d/mta.conf "$top/contrib/systemd/mta.sysusers"
 put lib/tmpfiles.d/mta.conf "$top/contrib/systemd/mta.tmpfiles"
