@@ -69,6 +69,9 @@ for tool in $tools; do
   mkdir -p "$root/share/man/man1"
   echo ".so man1/mta-tools.1" >"$root/share/man/man1/${tool%%=*}.1"
 done
+for name in mta-fetch=mta-box mta-archive=mta-log mta-trace=mta-log; do
+  echo ".so man1/${name#*=}.1" >"$root/share/man/man1/${name%%=*}.1"
+done
 for page in "$top"/man/*; do put "share/man/man${page##*.}/$(basename "$page")" "$page"; done
 put share/bash-completion/completions/mta "$top/contrib/completion/mta"
 put share/bash-completion/completions/mta-log "$top/contrib/completion/watching"
