@@ -363,11 +363,11 @@ def try_trace():
     """A message to a list, one member of which is at another agent: each step of it over both agents, from spools, from
     logs and from what a snapshot has."""
     gold, silver = agent("trace-gold", *GOLD), agent("trace-silver", *SILVER)
-    mta(gold, "submit", octets=message("--report", BELL, "C=GB;A=GOLD;CN=STAFF", "T1"))
-    mta(gold, "submit", octets=message(BELL, WATT, "T2"))
+    mta(gold, "submit", octets=message("--report", BELL, "C=GB;A=GOLD;CN=STAFF", "TRACED"))
+    mta(gold, "submit", octets=message(BELL, WATT, "ANOTHER"))
     meet(gold, "SILVER-1", silver)
     meet(gold, "SILVER-1", silver)
-    found = events("C=GB;A=GOLD/T1", gold, silver)
+    found = events("C=GB;A=GOLD/TRACED", gold, silver)
     for line in (("GOLD-1", "taken", f"submitted from {BELL} to C=GB;A=GOLD;CN=STAFF"),
                  ("GOLD-1", "expanded", "recipient 1 C=GB;A=GOLD;CN=STAFF"),
                  ("GOLD-1", "made", f"copy for {WATT}, C=GB;A=GOLD;S=FARADAY, C=US;A=SILVER;CN=OUTER"),
@@ -386,11 +386,11 @@ def try_trace():
     want("the order", places, sorted(places))
     report = next(it for it in found if it[1] == "taken" and "report" in it[2])
     want("the report that came back", (report[0], "from peer SILVER-1" in report[2]), ("GOLD-1", True))
-    want("another message", [it for it in found if "T2" in it[2]], [])
-    want("by its own part", events("T1", gold, silver), found)
+    want("another message", [it for it in found if "ANOTHER" in it[2]], [])
+    want("by its own part", events("TRACED", gold, silver), found)
     from_logs(gold, silver, found)
-    tool("mta-trace", "T9", gold, silver, status=1)
-    tool("mta-trace", "T1", f"{MADE}/nowhere", status=2)
+    tool("mta-trace", "ABSENT", gold, silver, status=1)
+    tool("mta-trace", "TRACED", f"{MADE}/nowhere", status=2)
     want("what waits", waiting(), ("GOLD-1", "pending", "recipient 1 C=FR;A=X;S=Y"))
 
 
@@ -400,14 +400,14 @@ def from_logs(gold, silver, found):
         with open(f"{MADE}/{name}", "wb") as file:
             file.write(tool("mta-log", "--json", folder))
     logs = [f"{MADE}/gold.json", f"{MADE}/silver.json"]
-    want("by logs", events("C=GB;A=GOLD/T1", *logs), found)
+    want("by logs", events("C=GB;A=GOLD/TRACED", *logs), found)
     with open(logs[0], encoding="utf-8") as file, open(f"{MADE}/entries.json", "w", encoding="utf-8") as other:
         for line in file:
             other.write(json.dumps({"MESSAGE": "x", "MTA_JSON": line}) + "\n")
         other.write('{"MESSAGE": "cut o')
-    want("by entries", events("C=GB;A=GOLD/T1", f"{MADE}/entries.json", logs[1]), found)
-    want("by all of it", events("C=GB;A=GOLD/T1", *logs, gold, silver), found)
-    objects = [json.loads(it) for it in tool("mta-trace", "--json", "T1", gold, silver).decode().splitlines()]
+    want("by entries", events("C=GB;A=GOLD/TRACED", f"{MADE}/entries.json", logs[1]), found)
+    want("by all of it", events("C=GB;A=GOLD/TRACED", *logs, gold, silver), found)
+    objects = [json.loads(it) for it in tool("mta-trace", "--json", "TRACED", gold, silver).decode().splitlines()]
     want("as objects", [(it["agent"], it["event"]) for it in objects], [it[:2] for it in found])
 
 
@@ -440,7 +440,7 @@ def try_trace_snapshot():
 def try_watched():
     """What waits by peer, counts since the beginning, the clock, the disk, and words that it does not know."""
     folder = agent("watched", *GOLD)
-    mta(folder, "submit", octets=message(BELL, "C=FR;A=X;S=Y", "C=FR;A=X;S=Z", MORSE, WATT, "W1"))
+    mta(folder, "submit", octets=message(BELL, "C=FR;A=X;S=Y", "C=FR;A=X;S=Z", MORSE, WATT, "WATCHED-1"))
     mta(folder, "submit", octets=sample("report-delivery.ber"))
     said = tool("check-mta", folder).decode()
     for words in ("3 pending", "2 for NOBODY since ", "1 for SILVER-1 since "):
