@@ -793,8 +793,9 @@ def main():
             job.result()
 
 
-try:
-    main()
-except Wrong as why:
-    print(why)
-    sys.exit(1)
+if __name__ == "__main__":
+    try:
+        main()
+    except Wrong as why:
+        print(why)
+        sys.exit(1)

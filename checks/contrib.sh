@@ -8,8 +8,10 @@ cd "$(dirname "$0")/.." || exit 2
 program python3
 wrong=0
 found mta_store
-PYTHONDONTWRITEBYTECODE=1 python3 checks/contrib.py "$mta" "$made" "$found" || wrong=1
-PYTHONDONTWRITEBYTECODE=1 python3 checks/messages.py "$mta" "$made" || wrong=1
+export PYTHONDONTWRITEBYTECODE=1
+python3 checks/contrib.py "$mta" "$made" "$found" || wrong=1
+python3 checks/watching.py "$mta" "$made" "$found" || wrong=1
+python3 checks/messages.py "$mta" "$made" || wrong=1
 found mta_rehearse
 found mta_audit
 found mta_follow

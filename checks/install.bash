@@ -26,9 +26,11 @@ if command -v systemd-analyze >/dev/null; then
   contrib/install.sh --program "$mta" "$place" >/dev/null || fails "a prefix of its own: status $?"
   units=$place/lib/systemd/system
   said=$(MANPATH=$place/share/man: systemd-analyze verify --man=yes "$units"/mta{@,-failed@,-again@,-standby@}.service \
-    "$units"/mta-{call,watch,follow}@.timer "$units"/mta-drop@.path 2>&1) || said="status $?: $said"
+    "$units"/mta-{call,watch,follow}@.timer "$units"/mta-{log@.service,archive@.timer} "$units"/mta-drop@.path 2>&1) ||
+    said="status $?: $said"
   [ -z "$said" ] || fails "systemd-analyze verify: $said"
-  for unit in mta@GOLD mta-call@GOLD mta-watch@GOLD mta-failed@mta@GOLD.service mta-follow@GOLD mta-standby@GOLD mta-drop@GOLD; do
+  for unit in mta@GOLD mta-call@GOLD mta-watch@GOLD mta-failed@mta@GOLD.service mta-follow@GOLD mta-standby@GOLD \
+    mta-log@GOLD mta-archive@GOLD mta-drop@GOLD; do
     # 20 is an exposure of 2.0, "OK"
     systemd-analyze security --offline=true --threshold=20 --root="$root" "$unit.service" >/dev/null 2>&1 ||
       fails "systemd-analyze security: $unit is exposed"
@@ -54,7 +56,7 @@ done
 if command -v bash >/dev/null; then
   # what is left to type of a line, whose words bash cuts at colons
   completed() {
-    bash -c '. contrib/completion/mta; cd contrib/sample/GOLD
+    bash -c '. contrib/completion/mta; . contrib/completion/watching; cd contrib/sample/GOLD
       read -ra COMP_WORDS <<<"${1//:/ : }"
       case $1 in *" ") COMP_WORDS+=("") ;; esac
       COMP_LINE=$1 COMP_POINT=${#1} COMP_CWORD=$((${#COMP_WORDS[@]} - 1))
@@ -70,6 +72,9 @@ mta serve |1 1000000
 mta serve 1 |in: out:GOLD-POST: out:SILVER-1:
 mta serve 1 in:1 out:S|SILVER-1:
 mta-look . read w|watt
+mta-box . |list fetch delete
+mta-box . fetch b|bell
+mta-fetch --a|--as
 LINES
 fi
 DESTDIR=$root contrib/install.sh --remove /usr >/dev/null || fails "--remove ended with $?"

@@ -32,12 +32,16 @@ tools="mta-log=mta-log mta-look=mta-look mta-apdu=mta-apdu mta-content=mta-conte
 # commands whose completion is that of all tools
 completed="mta-message mta-ipm mta-report mta-content mta-submit mta-drop mta-tables-check mta-apdu mta_store mta_follow
   mta_audit"
+# those by which an agent is watched and its mailboxes are read, and their completion
+watching="mta-log mta-look check-mta mta-box mta-fetch mta-archive mta-trace"
+tools="$tools mta-box=mta-box mta-archive=mta-archive mta-trace=mta-trace"
+units="$units mta-log@.service mta-archive@.service mta-archive@.timer"
 
 if [ "$remove" = yes ]; then
   for tool in $tools; do rm -f "$root/bin/${tool%%=*}" "$root/share/man/man1/${tool%%=*}.1"; done
   for unit in $units; do rm -f "$root/lib/systemd/system/$unit"; done
   for page in "$top"/man/*; do rm -f "$root/share/man/man${page##*.}/$(basename "$page")"; done
-  for name in mta mta-look mta-log mta-tools $completed; do rm -f "$root/share/bash-completion/completions/$name"; done
+  for name in mta mta-tools $completed $watching; do rm -f "$root/share/bash-completion/completions/$name"; done
   rm -rf "$root/share/mta" "$root/share/doc/mta"
   rm -f "$root/bin/mta" "$root/bin/mta_rehearse" "$root/bin/mta_audit" "$root/bin/mta_follow" "$root/bin/mta_store"
   rm -f "$root/lib/sysusers.d/mta.conf" "$root/lib/tmpfiles.d/mta.conf"
@@ -69,11 +73,19 @@ for tool in $tools; do
   mkdir -p "$root/share/man/man1"
   echo ".so man1/mta-tools.1" >"$root/share/man/man1/${tool%%=*}.1"
 done
+for name in mta-fetch=mta-box mta-archive=mta-log mta-trace=mta-log; do
+  echo ".so man1/${name#*=}.1" >"$root/share/man/man1/${name%%=*}.1"
+done
 for page in "$top"/man/*; do put "share/man/man${page##*.}/$(basename "$page")" "$page"; done
 put share/bash-completion/completions/mta "$top/contrib/completion/mta"
-for name in mta-look mta-log; do ln -sf mta "$root/share/bash-completion/completions/$name"; done
 put share/bash-completion/completions/mta-tools "$top/contrib/completion/mta-tools"
 for name in $completed; do ln -sf mta-tools "$root/share/bash-completion/completions/$name"; done
+put share/bash-completion/completions/mta-log "$top/contrib/completion/watching"
+for name in $watching; do
+  [ "$name" = mta-log ] || ln -sf mta-log "$root/share/bash-completion/completions/$name"
+done
+put share/doc/mta/sudoers "$top/contrib/sudoers"
+put share/doc/mta/grafana/mta.json "$top/contrib/grafana/mta.json"
 for unit in $units; do put_filled "lib/systemd/system/$unit" "$top/contrib/systemd/$unit"; done
 put lib/sysusers.d/mta.conf "$top/contrib/systemd/mta.sysusers"
 put lib/tmpfiles.d/mta.conf "$top/contrib/systemd/mta.tmpfiles"
