@@ -68,9 +68,7 @@ fn station_of<'a>(
 ) -> Result<TcpStation<'a, HostRuntime>, Memory> {
     let patience = Patience::usual();
     let mut station = match word {
-        StationWord::In { port } => {
-            TcpStation::listening(rt, process, port_of(*port), patience)
-        }
+        StationWord::In { port } => { TcpStation::listening(rt, process, port_of(*port), patience) }
         StationWord::Out { peer, host, port } => {
             let role = Role::Out(peer.share()?);
             let host = host_of(rt.alloc(), host.as_slice())?;

@@ -74,8 +74,7 @@ fn main(rt: HostRuntime) -> ExitCode {
     let pair = Pair::new();
     let (first, second) = (word_at(words, 0), word_at(words, 1));
     let is_one = first == second;
-    let (mut first, second) =
-        FileDisk::pair(&rt, &process, path_of(first), path_of(second), &pair);
+    let (mut first, second) = FileDisk::pair(&rt, &process, path_of(first), path_of(second), &pair);
     if words.len() == FILES && (is_one || first.is_one()) {
         return ExitCode::from(tell(rt.alloc(), &mut out, Stop::Usage));
     }
