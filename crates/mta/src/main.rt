@@ -106,6 +106,17 @@ fn stations_of<'a>(
     Ok(stations)
 }
 
+// The spool and the stations that the words name. The file is opened at the first call, so a command that calls no disk
+// leaves none behind.
+fn objects_of<'a>(
+    rt: &'a HostRuntime,
+    process: &'a Process,
+    words: &[String],
+) -> Result<(FileDisk<'a, HostRuntime>, Vec<TcpStation<'a, HostRuntime>>), Memory> {
+    let stations = stations_of(rt, process, words)?;
+    Ok((FileDisk::new(rt, process, SPOOL), stations))
+}
+
 fn main(rt: HostRuntime) -> ExitCode {
     let Ok(_streams) = Streams::taken(&rt) else {
         return ExitCode::from(NO_STREAMS);
@@ -119,8 +130,8 @@ fn main(rt: HostRuntime) -> ExitCode {
         }
     };
     let process = Process::new(&rt, process::id(rt.process()));
-    let stations = match stations_of(&rt, &process, words.as_slice()) {
-        Ok(stations) => stations,
+    let (disk, stations) = match objects_of(&rt, &process, words.as_slice()) {
+        Ok(objects) => objects,
         Err(_) => {
             let status = tell(rt.alloc(), &mut out, &Stop::Memory);
             return ExitCode::from(status);
@@ -128,8 +139,6 @@ fn main(rt: HostRuntime) -> ExitCode {
     };
     let mut conf = Reading::new(Octets::File(File::open(&rt, "mta.tables").ok()));
     let mut input = Reading::new(Octets::Stream(rt.reader()));
-    // The file is opened at the first call, so a command that calls no disk leaves none behind.
-    let disk = FileDisk::new(&rt, &process, SPOOL);
     let clock = SystemClock::new(&rt);
     let finished = run(
         &rt,

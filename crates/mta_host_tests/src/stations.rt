@@ -44,7 +44,7 @@ fn a_closed_station_lets_its_port_go(rt: HostRuntime) -> Result<(), Fail> {
     let port = port_of(&mut station)?;
     let mut waiting = connected(&rt, &mut station)?;
     let (_peer, link) = called(&rt, &mut station)?;
-    station.back(link);
+    drop(link);
     station.close(CloseWhy::Served);
     assert!(rt; is_closed(&mut waiting)?);
     assert!(rt; TcpStream::connect(&rt, (HOST, port)).is_err());
@@ -61,7 +61,7 @@ fn a_station_fails_once_the_process_has(rt: HostRuntime) -> Result<(), Fail> {
     assert!(rt; fail(&rt, &process));
     assert_eq!(rt; link.put(&[7]), Ok(1));
     assert_eq!(rt; link.get(&mut [0u8; 1]), Err(Failed));
-    station.back(link);
+    drop(link);
     assert!(rt; station.next().is_err());
     assert!(rt; caller.next().is_err());
     Ok(())
