@@ -5,6 +5,7 @@ import threading
 import time
 
 PIECE = 4096
+SHORT = 3000         # octets in which an association opens and a transfer begins
 
 
 class Connection:
@@ -71,7 +72,7 @@ class Tap:
         with self.lock:
             if self.most is None or self.broken >= self.wanted:
                 return None
-            return self.random.randint(1, self.most)
+            return self.random.randint(1, self.random.choice((SHORT, self.most)))
 
     def broke(self, connection):
         with self.lock:

@@ -68,6 +68,8 @@ class Opened(Association):
         self.turn = AGENT if is_initiator else PEER
         self.size, self.window, self.state = opening.checkpoint, opening.window, NONE
         self.host.set_longest(larger(self.size))
+        self.host.log(f"association {'resumed' if opening.recovered else 'opened'}, checkpoint size {self.size}, "
+                      f"window {self.window}")
 
     def refuse(self, text, reason):
         """The peer's connection is refused."""

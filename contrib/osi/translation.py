@@ -521,6 +521,7 @@ class Association:
         if not self.closes or self.is_initiator:
             raise Malformed("a CloseAck")
         self.map.close(self.lane)
+        self.host.log("association closed")
         self.host.to_peer(self.mode.release_answer())
         self.is_over = self.ends_well = True
 
@@ -528,6 +529,7 @@ class Association:
         if not self.closes or not self.is_initiator:
             raise Malformed("a release that was not asked for is answered")
         self.map.close(self.lane)
+        self.host.log("association closed")
         self.last_word = units.unit(units.CLOSE_ACK)
         self.is_over = self.ends_well = True
 
