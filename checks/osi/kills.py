@@ -18,12 +18,11 @@ FOREIGN = [sys.executable, TOP / "checks" / "osi" / "foreign.py"]
 
 
 def submitted(world, count):
-    """Submits the messages of both sides. Their contents by side."""
-    sent = {side: [] for side in NAMES}
-    for number in range(1, count // 2 + 1):
-        for side, contents in sent.items():
-            contents.append(world.random.randbytes(world.random.randint(1, LONGEST)))
-            world.submit(side, number, contents[-1])
+    """Hands over the messages of both sides. Their contents by side."""
+    sent = {}
+    for side in NAMES:
+        sent[side] = [world.random.randbytes(world.random.randint(1, LONGEST)) for _ in range(count // 2)]
+        world.hand_over(side, sent[side])
     return sent
 
 
@@ -73,7 +72,7 @@ def main(mta, folder, messages, breaks, kills, seed="1", seconds="3600", *words)
         sent = submitted(world, messages)
         print(f"{messages} messages are submitted", flush=True)
         for tap in world.taps.values():
-            # half of them so early that few transfers come before, so that all come even if nothing is left to send
+            # some of them so early that no transfer comes before, so that all come even if nothing is left to send
             tap.wanted = breaks // 2 + breaks % 2
             tap.most = max(2000, messages * LONGEST // 2 // max(1, breaks))
         world.start_bridges()

@@ -11,7 +11,7 @@ def main(mta, folder, size, length, traced=""):
         world.start_agent("silver")
         world.start_bridges()
         contents = [b"x" * int(length)]
-        world.submit("gold", 1, contents[0])
+        world.hand_over("gold", contents)
         for _ in range(4):
             print(world.call("gold"))
             time.sleep(0.3)

@@ -72,7 +72,7 @@ class Tap:
         with self.lock:
             if self.most is None or self.broken >= self.wanted:
                 return None
-            return self.random.randint(1, self.random.choice((SHORT, self.most)))
+            return self.random.randint(1, self.random.choice((SHORT, self.most, self.most, self.most)))
 
     def broke(self, connection):
         with self.lock:

@@ -1,4 +1,5 @@
 """Two agents with bridges between them, in a folder: GOLD and SILVER, of which each calls the other over OSI."""
+import itertools
 import os
 import random
 import subprocess
@@ -6,6 +7,7 @@ import sys
 import time
 from pathlib import Path
 
+from post import LINE, Post
 from tap import Tap
 
 TOP = Path(__file__).resolve().parents[2]
@@ -15,8 +17,9 @@ import p1  # noqa: E402
 BRIDGE = TOP / "contrib" / "mta-osi"
 NAMES = {"gold": ("GOLD-1", "C=GB;A=GOLD", "bell"), "silver": ("SILVER-1", "C=US;A=SILVER", "morse")}
 OTHER = {"gold": "silver", "silver": "gold"}
-# ports beside the first one: what the bridge out, the relay and the bridge in of each caller listen at, and the station
-OUT, TAP, IN, STATION = 0, 1, 2, 3
+# ports beside the first one: what the bridge out, the relay and the bridge in of each caller listen at, the station that
+# is called then, and that of a post office
+OUT, TAP, IN, STATION, POST = 0, 1, 2, 3, 4
 SETTINGS = """peer {peer}
 agent {agent}
 agent-tsel MTA-{agent}
@@ -33,8 +36,12 @@ unseen-end 1
 """
 
 
+worlds = itertools.count()
+
+
 def base_port():
-    return 20_000 + os.getpid() % 900 * 20
+    """Ten ports for each world of this process, away from those that are given to connections."""
+    return 10_000 + os.getpid() % 300 * 60 + 10 * next(worlds)
 
 
 def name_of(side):
@@ -71,7 +78,7 @@ class World:
         folder = self.folder / side
         folder.mkdir(parents=True)
         lines = [f"domain {domain}", f"name {name}", f"peer {peer} from-{side} from-{OTHER[side]} {self.tables}",
-                 f"mailbox {mailbox} {name_of(side)}", f"route {other_domain} peer {peer}"]
+                 f"mailbox {mailbox} {name_of(side)}", f"route {other_domain} peer {peer}", LINE]
         (folder / "mta.tables").write_text("\n".join(lines) + "\n")
         numbers = {it: at + 1 for at, it in enumerate(NAMES)}
         text = SETTINGS.format(peer=peer, agent=name, agent_word=side, peer_word=OTHER[side],
@@ -137,6 +144,22 @@ class World:
         said = self.run(side, "submit", octets=apdu)
         assert said.startswith("accepted "), said
         return apdu
+
+    def hand_over(self, side, contents):
+        """Messages with these contents, to an agent that is started for it."""
+        port = self.port(side, POST)
+        self.start(side, [self.mta, "serve", 1, f"in:{port}"], self.folder / side)
+        for _ in range(600):
+            time.sleep(0.1)
+            try:
+                post = Post(port)
+                break
+            except ConnectionRefusedError:
+                pass
+        for number, content in enumerate(contents, 1):
+            post.send(number, message(side, number, content))
+        post.close()
+        self.processes.pop(side).wait(60)
 
     def call(self, side):
         """One session that a side calls for."""
