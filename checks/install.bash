@@ -19,10 +19,11 @@ if command -v systemd-analyze >/dev/null; then
   place=$2/prefix
   contrib/install.sh --program "$mta" "$place" >/dev/null || fails "a prefix of its own: status $?"
   units=$place/lib/systemd/system
-  said=$(MANPATH=$place/share/man: systemd-analyze verify --man=yes "$units"/mta{@,-failed@,-standby@}.service \
+  said=$(MANPATH=$place/share/man: systemd-analyze verify --man=yes "$units"/mta{@,-failed@,-standby@,-osi-out@,-osi-in@}.service \
     "$units"/mta-{call,watch,follow}@.timer 2>&1) || said="status $?: $said"
   [ -z "$said" ] || fails "systemd-analyze verify: $said"
-  for unit in mta@GOLD mta-call@GOLD mta-watch@GOLD mta-failed@mta@GOLD.service mta-follow@GOLD mta-standby@GOLD; do
+  for unit in mta@GOLD mta-call@GOLD mta-watch@GOLD mta-failed@mta@GOLD.service mta-follow@GOLD mta-standby@GOLD \
+    mta-osi-out@GOLD mta-osi-in@GOLD; do
     # 20 is an exposure of 2.0, "OK"
     systemd-analyze security --offline=true --threshold=20 --root="$root" "$unit.service" >/dev/null 2>&1 ||
       fails "systemd-analyze security: $unit is exposed"
@@ -52,6 +53,7 @@ mta serve |1 1000000
 mta serve 1 |in: out:GOLD-POST: out:SILVER-1:
 mta serve 1 in:1 out:S|SILVER-1:
 mta-look . read w|watt
+mta-osi o|out
 LINES
 fi
 DESTDIR=$root contrib/install.sh --remove /usr >/dev/null || fails "--remove ended with $?"

@@ -23,7 +23,7 @@ case $prefix in /*) ;; *) echo "install.sh: PREFIX is a path from the root, and 
 root=${DESTDIR:-}$prefix
 share=$prefix/share/mta
 units="mta@.service mta-call@.service mta-call@.timer mta-watch@.service mta-watch@.timer mta-failed@.service
-  mta-follow@.service mta-follow@.timer mta-standby@.service"
+  mta-follow@.service mta-follow@.timer mta-standby@.service mta-osi-out@.service mta-osi-in@.service"
 # the tools as commands, each with its file
 tools="mta-log=mta-log mta-look=mta-look mta-apdu=mta-apdu mta-content=mta-content mta-ipm=mta-ipm check-mta=check-mta
   mta-message=message.py mta-fetch=fetch.py mta-tables-check=tables-check.py mta-submit=submit.sh
@@ -33,9 +33,9 @@ if [ "$remove" = yes ]; then
   for tool in $tools; do rm -f "$root/bin/${tool%%=*}" "$root/share/man/man1/${tool%%=*}.1"; done
   for unit in $units; do rm -f "$root/lib/systemd/system/$unit"; done
   for page in "$top"/man/*; do rm -f "$root/share/man/man${page##*.}/$(basename "$page")"; done
-  for name in mta mta-look mta-log; do rm -f "$root/share/bash-completion/completions/$name"; done
+  for name in mta mta-look mta-log mta-osi; do rm -f "$root/share/bash-completion/completions/$name"; done
   rm -rf "$root/share/mta" "$root/share/doc/mta"
-  rm -f "$root/bin/mta" "$root/bin/mta_rehearse" "$root/bin/mta_audit" "$root/bin/mta_follow" "$root/bin/mta_store"
+  rm -f "$root/bin/mta-osi" "$root/bin/mta" "$root/bin/mta_rehearse" "$root/bin/mta_audit" "$root/bin/mta_follow" "$root/bin/mta_store"
   rm -f "$root/lib/sysusers.d/mta.conf" "$root/lib/tmpfiles.d/mta.conf"
   echo "mta is taken out of $prefix; /var/lib/mta, /etc/mta and the user mta are left"
   exit 0
@@ -59,6 +59,9 @@ put bin/mta_follow "$follow" 755
 put bin/mta_store "$store" 755
 for tool in $tools; do put "share/mta/${tool#*=}" "$top/contrib/${tool#*=}" 755; done
 for file in "$top"/contrib/lib/*.py; do put "share/mta/lib/$(basename "$file")" "$file"; done
+put share/mta/mta-osi "$top/contrib/mta-osi" 755
+for file in "$top"/contrib/osi/*.py; do put "share/mta/osi/$(basename "$file")" "$file"; done
+mkdir -p "$root/bin" && ln -sf ../share/mta/mta-osi "$root/bin/mta-osi"
 put share/mta/mta-why "$top/contrib/systemd/mta-why" 755
 for tool in $tools; do
   ln -sf "../share/mta/${tool#*=}" "$root/bin/${tool%%=*}"
@@ -67,11 +70,11 @@ for tool in $tools; do
 done
 for page in "$top"/man/*; do put "share/man/man${page##*.}/$(basename "$page")" "$page"; done
 put share/bash-completion/completions/mta "$top/contrib/completion/mta"
-for name in mta-look mta-log; do ln -sf mta "$root/share/bash-completion/completions/$name"; done
+for name in mta-look mta-log mta-osi; do ln -sf mta "$root/share/bash-completion/completions/$name"; done
 for unit in $units; do put_filled "lib/systemd/system/$unit" "$top/contrib/systemd/$unit"; done
 put lib/sysusers.d/mta.conf "$top/contrib/systemd/mta.sysusers"
 put lib/tmpfiles.d/mta.conf "$top/contrib/systemd/mta.tmpfiles"
-for file in README.md docs/MANUAL.md docs/PROTOCOL.md docs/PROVED.md docs/p1.asn1 contrib/wireshark/mta.lua; do
+for file in README.md docs/MANUAL.md docs/PROTOCOL.md docs/OSI.md docs/PROVED.md docs/p1.asn1 contrib/wireshark/mta.lua; do
   put "share/doc/mta/$(basename "$file")" "$top/$file"
 done
 # samples/spools is for checks alone

@@ -1,5 +1,5 @@
-"""What tshark, which shares nothing with the bridge, reads in connections without breaks: no malformed frame, and each PDU
-by its name. captures.py MTA FOLDER [READER]: the recorded connections stay in FOLDER; READER is the second reader."""
+"""What tshark, which shares nothing with the bridge, reads in connections without breaks: no malformed frame, and each
+PDU by its name. captures.py MTA FOLDER [READER]: the recorded connections stay in FOLDER; READER is the second reader."""
 import subprocess
 import sys
 import time
@@ -20,7 +20,8 @@ DETAILS = ["id-as-acse", "id-as-mta-rtse", "id-as-mtse", "id-ac-mts-transfer", "
 
 
 def shark(capture, *words):
-    run = subprocess.run(["tshark", "-r", capture, *words], stdout=subprocess.PIPE, stderr=subprocess.DEVNULL, check=True)
+    run = subprocess.run(["tshark", "-r", capture, *words], check=True, stdout=subprocess.PIPE,
+                         stderr=subprocess.DEVNULL)
     return run.stdout.decode(errors="replace")
 
 
@@ -64,7 +65,8 @@ def looked_at(traces):
 
 def main(mta, folder, *reader):
     folder, failed = Path(folder), False
-    cases = {"pieces": (4, 20_000, {}), "whole": (0, 5000, {}), "indefinite": (4, 20_000, {"out": FOREIGN, "in": FOREIGN})}
+    foreign = {"out": FOREIGN, "in": FOREIGN}
+    cases = {"pieces": (4, 20_000, {}), "whole": (0, 5000, {}), "indefinite": (4, 20_000, foreign)}
     for name, (size, length, ways) in cases.items():
         traces = sessions(mta, folder / name, size, length, ways)
         frames, wrong, missing, details = looked_at(traces)
@@ -72,8 +74,8 @@ def main(mta, folder, *reader):
             missing = [it for it in missing if "MINOR" not in it]
         else:
             missing += [it for it in DETAILS[:-1] if it not in details]
-        print(f"{name}: {len(traces)} connections, {frames} frames, {wrong} malformed; not shown: {missing or 'nothing'}",
-              flush=True)
+        print(f"{name}: {len(traces)} connections, {frames} frames, {wrong} malformed; "
+              f"not shown: {missing or 'nothing'}", flush=True)
         failed = failed or wrong or missing
         for trace in traces if reader else []:
             run = subprocess.run([sys.executable, *reader, trace], stdout=subprocess.PIPE, check=False)

@@ -1,5 +1,5 @@
-"""mta-osi with octets that another maker's sender may put: an EXTERNAL of indefinite length, so that octets stand behind
-the message, and an RTTR in segments, in a presentation data value that names its transfer syntax."""
+"""mta-osi with octets that another maker's sender may put: an EXTERNAL of indefinite length, so that octets stand
+behind the message, and an RTTR in segments, in a presentation data value that names its transfer syntax."""
 import os
 import runpy
 import sys

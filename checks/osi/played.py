@@ -1,5 +1,5 @@
-"""Both ends of a bridge without sockets: a plain agent and a plain station around associations, whose octets are recorded
-and played again."""
+"""Both ends of a bridge without sockets: a plain agent and a plain station around associations, whose octets are
+recorded and played again."""
 import ipaddress
 import sys
 from pathlib import Path

@@ -1,5 +1,5 @@
-"""A post office: hands messages over to an agent in one association, where each submission by itself would take the time
-of opening the spool."""
+"""A post office: hands messages over to an agent in one association, where each submission by itself would take the
+time of opening the spool."""
 import socket
 import sys
 from pathlib import Path

@@ -134,7 +134,8 @@ def opening(is_request):
 
 
 def transfers():
-    for tag, around, write in ((rtse.REQUEST, rtse.ARGUMENT, rtse.request), (rtse.ACCEPTED, rtse.RESULT, rtse.accepted)):
+    kinds = (rtse.REQUEST, rtse.ARGUMENT, rtse.request), (rtse.ACCEPTED, rtse.RESULT, rtse.accepted)
+    for tag, around, write in kinds:
         for wanted in (around, None):
             asked = opening(tag == rtse.REQUEST)
             same(rtse.opening_of(write(asked, wanted), tag, around), asked)

@@ -17,8 +17,8 @@ import p1  # noqa: E402
 BRIDGE = TOP / "contrib" / "mta-osi"
 NAMES = {"gold": ("GOLD-1", "C=GB;A=GOLD", "bell"), "silver": ("SILVER-1", "C=US;A=SILVER", "morse")}
 OTHER = {"gold": "silver", "silver": "gold"}
-# ports beside the first one: what the bridge out, the relay and the bridge in of each caller listen at, the station that
-# is called then, and that of a post office
+# ports beside the first one: what the bridge out, the relay and the bridge in of each caller listen at, the station
+# that is called then, and that of a post office
 OUT, TAP, IN, STATION, POST = 0, 1, 2, 3, 4
 SETTINGS = """peer {peer}
 agent {agent}

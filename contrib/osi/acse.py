@@ -34,8 +34,8 @@ def titled(tags, title):
 
 def request(name, called, calling, context, apdu):
     return element(REQUEST, element(CONTEXT_NAME, object_identifier(name)),
-                   titled((CALLED_TITLE, CALLED_QUALIFIER), called), titled((CALLING_TITLE, CALLING_QUALIFIER), calling),
-                   user(context, apdu))
+                   titled((CALLED_TITLE, CALLED_QUALIFIER), called),
+                   titled((CALLING_TITLE, CALLING_QUALIFIER), calling), user(context, apdu))
 
 
 def response(name, result, title, context, apdu, reason=NO_REASON):

@@ -1,4 +1,4 @@
-"""Elements of X.690, as far as the layers of OSI need them: definite and indefinite lengths, and strings in segments."""
+"""Elements of X.690, as far as the layers of OSI need them: definite and indefinite lengths, strings in segments."""
 
 DEEPEST = 32           # levels of elements that are read
 INDEFINITE = 0x80

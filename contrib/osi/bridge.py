@@ -1,5 +1,6 @@
 """The sockets of a bridge: for each connection a pair of a link to our agent and an OSI connection to a peer. One OSI
-connection of a lane is open at a time; an older one has been aborted, and its end was seen, before a newer one opens."""
+connection of a lane is open at a time; an older one has been aborted, and its end was seen, before a newer one
+opens."""
 import asyncio
 import ipaddress
 import resource

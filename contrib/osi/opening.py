@@ -184,7 +184,7 @@ class Called(Opened):
     def bound(self, opening):
         """The peer's answer to a bind, as our agent gets it."""
         size, asked = opening.checkpoint, self.asked_for
-        if size == 1 or size and not asked.checkpoint or size > asked.checkpoint or not 0 < opening.window <= asked.window:
+        if size == 1 or size > asked.checkpoint or not 0 < opening.window <= asked.window:
             return self.wrong_end("the peer answers with values that were not proposed", rtse.INVALID_PARAMETER)
         known, bind = self.settings, opening.bind
         if not peers.binds(known, bind) or known.peer_osi_password not in (None, bind.password):

@@ -1,6 +1,6 @@
 """What one side of an association says, said to the other side: units of the lane's protocol and primitives of OSI,
-event by event. It holds no message, and says no confirmation that the other side did not say, but the one of a resumption
-(`agent_resumes`), which claims nothing that the peer had not confirmed before.
+event by event. It holds no message, and says no confirmation that the other side did not say, but the one of a
+resumption (`agent_resumes`), which claims nothing that the peer had not confirmed before.
 
 *Agent* is our own one, on its link; *peer* is another maker's, on its OSI connection."""
 from collections import deque
