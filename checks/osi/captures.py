@@ -1,5 +1,5 @@
 """What tshark, which shares nothing with the bridge, reads in connections without breaks: no malformed frame, and each
-PDU by its name. captures.py MTA FOLDER [READER]: the recorded connections stay in FOLDER; READER is the second reader."""
+PDU by its name. captures.py MTA FOLDER [READER]: the recorded connections stay in FOLDER; READER is a second reader."""
 import subprocess
 import sys
 import time

@@ -37,13 +37,24 @@ class Connection:
                 count = self.allowed(octets)
                 self.tap.write(self, way, octets[:count])
                 other.sendall(octets[:count])
-                if count < len(octets):
+                if count < len(octets) and not self.tap.stalls:
                     self.tap.broke(self)
                     break
+                if count < len(octets):
+                    self.stall()
+                    other.sendall(octets[count:])
         except OSError:
             pass
         self.stalled.wait()
         self.close()
+
+    def stall(self):
+        """Nothing goes through until somebody sets `stalled` again: then all of it does."""
+        self.left = None
+        self.stalled.clear()
+        self.stalled_at = time.monotonic()
+        self.tap.broke(self)
+        self.stalled.wait()
 
     def close(self):
         for end in self.ends:
@@ -64,7 +75,8 @@ class Tap:
         self.target, self.trace, self.most, self.wanted = target, trace, None, 0
         self.random = random.Random(seed)
         self.lock = threading.RLock()
-        self.broken, self.connections, self.refuses = 0, [], False
+        self.broken, self.connections = 0, []
+        self.stalls, self.exactly = False, None      # a connection stalls in place of breaking; where it does
         self.server = socket.create_server(("127.0.0.1", port))
         threading.Thread(target=self.accept, daemon=True).start()
 
@@ -72,6 +84,8 @@ class Tap:
         with self.lock:
             if self.most is None or self.broken >= self.wanted:
                 return None
+            if self.exactly is not None:
+                return self.exactly
             return self.random.randint(1, self.random.choice((SHORT, self.most, self.most, self.most)))
 
     def broke(self, connection):

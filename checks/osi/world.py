@@ -41,7 +41,7 @@ worlds = itertools.count()
 
 def base_port():
     """Ten ports for each world of this process, away from those that are given to connections."""
-    return 10_000 + os.getpid() % 300 * 60 + 10 * next(worlds)
+    return 10_000 + os.getpid() % 200 * 100 + 10 * next(worlds)
 
 
 def name_of(side):

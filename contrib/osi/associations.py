@@ -10,6 +10,7 @@ from session import Reference
 
 FIRST_LINE = "mta-osi map 1"
 KEPT_ACTIVITIES = 16       # of each lane, the newest ones
+KEPT_NAMES = 16            # of each activity, the newest ones, and the first one
 KEPT_SESSIONS = 64         # of each lane, the newest ones, and the first one
 FORGOTTEN_AFTER = 60       # days after which a lane is forgotten that nothing was heard of
 SECONDS_A_DAY = 86_400
@@ -66,10 +67,22 @@ class Lane:
         session = self.session_of(reference)
         return None if session is None else self.activities.get((session, identifier))
 
+    def names_of(self):
+        """The names of each activity of the peer, oldest first."""
+        found = {}
+        for key, number in self.activities.items():
+            found.setdefault(number, []).append(key)
+        return found
+
     def trim(self):
-        """Forgets what no peer names any more."""
-        while len(self.activities) > KEPT_ACTIVITIES:
-            self.endings.pop(self.activities.popitem(last=False)[1], None)
+        """Forgets what no peer names any more. Of an activity that is resumed again and again the first name stays, by
+        which some peers call it on each new session connection, and the newest ones."""
+        for place, (number, names) in enumerate(sorted(self.names_of().items(), reverse=True)):
+            old = names[1:-KEPT_NAMES] if place < KEPT_ACTIVITIES else names
+            for name in old:
+                del self.activities[name]
+            if place >= KEPT_ACTIVITIES:
+                self.endings.pop(number, None)
         while len(self.started) > KEPT_ACTIVITIES:
             self.indefinite.discard(self.started.popitem(last=False)[0])
         named = {session for session, _ in self.activities} | set(self.started.values())
