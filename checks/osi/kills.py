@@ -17,18 +17,20 @@ BETWEEN = 0.15           # seconds between two looks
 FOREIGN = [sys.executable, TOP / "checks" / "osi" / "foreign.py"]
 
 
-def submitted(world, count):
-    """Hands over the messages of both sides. Their contents by side."""
+def submitted(world, count, is_done):
+    """Hands over the messages of both sides, where this is not done. Their contents by side."""
     sent = {}
     for side in NAMES:
         sent[side] = [world.random.randbytes(world.random.randint(1, LONGEST)) for _ in range(count // 2)]
-        world.hand_over(side, sent[side])
+        if not is_done:
+            world.hand_over(side, sent[side])
     return sent
 
 
 def disturb(world, breaks, kills, until):
     """Breaks connections and kills processes until so many were broken and killed."""
-    names = [*NAMES, *(f"{way}-{caller}" for way in ("out", "in") for caller in NAMES)]
+    bridges = [f"{way}-{caller}" for way in ("out", "in") for caller in NAMES]
+    names = [*NAMES, *bridges, *bridges]
     said = time.monotonic()
     while time.monotonic() < until:
         time.sleep(BETWEEN)
@@ -46,18 +48,16 @@ def disturb(world, breaks, kills, until):
 
 
 def drained(world, until):
-    """Waits until nothing is pending at either side: messages and reports."""
-    while time.monotonic() < until:
-        time.sleep(20)
-        for side in NAMES:
-            world.kill(side)
-        left = {side: world.pending(side) for side in NAMES}
-        if not any(left.values()):
-            return
-        print(f"pending: {left}", flush=True)
-        for side in NAMES:
-            world.start_agent(side)
-    raise AssertionError("messages are still pending")
+    """Waits until nothing is pending at either side, neither messages nor reports."""
+    said, quiet = 0, 0
+    while quiet < 2:
+        assert time.monotonic() < until, "messages are still pending"
+        time.sleep(3)
+        left = {side: world.waiting(side) for side in NAMES}
+        quiet = 0 if any(left.values()) else quiet + 1
+        if time.monotonic() - said > 30:
+            said = time.monotonic()
+            print(f"pending: {left}", flush=True)
 
 
 def main(mta, folder, messages, breaks, kills, seed="1", seconds="3600", *words):
@@ -69,16 +69,17 @@ def main(mta, folder, messages, breaks, kills, seed="1", seconds="3600", *words)
                   extra=extra)
     until = time.monotonic() + int(seconds)
     try:
-        sent = submitted(world, messages)
+        sent = submitted(world, messages, "finish" in words)
         print(f"{messages} messages are submitted", flush=True)
         for tap in world.taps.values():
             # some of them so early that no transfer comes before, so that all come even if nothing is left to send
-            tap.wanted = breaks // 2 + breaks % 2
+            tap.wanted = 0 if "finish" in words else breaks // 2 + breaks % 2
             tap.most = max(2000, messages * LONGEST // 2 // max(1, breaks))
         world.start_bridges()
         for side in NAMES:
             world.start_agent(side)
-        disturb(world, breaks, kills, until)
+        if "finish" not in words:
+            disturb(world, breaks, kills, until)
         drained(world, until)
         world.stop()
         lines = world.check(sent)

@@ -12,7 +12,9 @@ from tap import Tap
 
 TOP = Path(__file__).resolve().parents[2]
 sys.path.insert(0, str(TOP / "contrib" / "lib"))
+import journal  # noqa: E402
 import p1  # noqa: E402
+import state  # noqa: E402
 
 BRIDGE = TOP / "contrib" / "mta-osi"
 NAMES = {"gold": ("GOLD-1", "C=GB;A=GOLD", "bell"), "silver": ("SILVER-1", "C=US;A=SILVER", "morse")}
@@ -76,7 +78,7 @@ class World:
         name, domain, mailbox = NAMES[side]
         peer, other_domain, _ = NAMES[OTHER[side]]
         folder = self.folder / side
-        folder.mkdir(parents=True)
+        folder.mkdir(parents=True, exist_ok=True)
         lines = [f"domain {domain}", f"name {name}", f"peer {peer} from-{side} from-{OTHER[side]} {self.tables}",
                  f"mailbox {mailbox} {name_of(side)}", f"route {other_domain} peer {peer}", LINE]
         (folder / "mta.tables").write_text("\n".join(lines) + "\n")
@@ -167,6 +169,10 @@ class World:
 
     def pending(self, side):
         return sum(" pending " in line for line in self.run(side, "spool").splitlines())
+
+    def waiting(self, side):
+        """The same of an agent that serves, by the tools that read a spool without its lock."""
+        return len(list(state.replay(journal.Journal(str(self.folder / side / "mta.spool"))).pending()))
 
     # What came of it ---------------------------------------------------------------------------------------
 

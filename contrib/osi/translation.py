@@ -40,7 +40,7 @@ class Transfer:
         self.octets = bytearray()                # since the last checkpoint
         self.synced = self.confirmed = 2 * checkpoint       # checkpoints of the lane
         self.queue = deque()                     # pieces that wait for the window
-        self.held = b""                          # the piece that may be the last one
+        self.held = []                           # what came up to checkpoints, of which one may be the last
         self.left = None                         # octets of the message that are still to come, where it is known
         self.ending = 0                          # octets that end the EXTERNAL
         self.end_was_put = False
@@ -269,7 +269,7 @@ class Association:
 
     def peer_syncs(self, point):
         it = self.transfer
-        if point != it.point:
+        if point != it.point or not self.size:
             raise Malformed("another checkpoint")
         it.point += 1
         if self.state != REFUSED and it.octets:
@@ -290,81 +290,69 @@ class Association:
         """What came since the last checkpoint, without the header of the EXTERNAL."""
         it = self.transfer
         octets, it.octets = bytes(it.octets), bytearray()
-        if not it.is_first:
-            return octets
-        octets, it.ending = self.mode.unwrapped(octets)
-        it.is_first = False
-        if it.ending:
+        if it.is_first:
+            octets, it.ending = self.mode.unwrapped(octets)
+            it.is_first = False
             it.left = rtse.message_size(octets)
+        if it.left is not None:
+            it.left -= len(octets)
         return octets
 
-    def without_end(self, octets, is_last):
-        """The octets of the message among these: without those that end the EXTERNAL. The message's own header says how
-        long it is; where that is not known any more, they are the last ones."""
-        it = self.transfer
-        if it.left is None:
-            if not is_last:
-                return octets
-            return self.cut_end(it.held + octets)[len(it.held):] if len(octets) > it.ending else self.short(octets)
-        ours, behind = octets[:it.left], octets[it.left:]
-        it.left -= len(ours)
-        if behind.strip(b"\0") or len(behind) > it.ending or is_last and it.left:
-            raise Malformed("the end of an EXTERNAL")
-        return ours
-
-    def cut_end(self, octets):
-        ending = self.transfer.ending
-        if ending and octets[-ending:].strip(b"\0") or len(octets) <= ending:
-            raise Malformed("the end of an EXTERNAL")
-        return octets[:len(octets) - ending]
-
-    def short(self, octets):
-        """All that came behind the held piece belongs to the end, and perhaps the last octets of the held piece do."""
-        it = self.transfer
-        it.held = self.cut_end(it.held + octets)
-        return b""
-
     def pieces_come(self, is_last):
-        """What came up to a checkpoint, as pieces for our agent: always two with a Sync behind each, but for the last
-        ones. So checkpoint n is 2 n there, and nothing has to be remembered for a resumption. The piece that may be the
-        last one is held back: where octets end the EXTERNAL it is not known before more of the message comes."""
+        """What came up to a checkpoint, for our agent: as two pieces with a Sync behind each, but for the last one. So
+        checkpoint n is 2 n there, and nothing has to be remembered for a resumption."""
         it = self.transfer
-        octets = self.without_end(self.message_octets(), is_last)
-        if not is_last and it.ending:
-            self.map.ends_with(self.lane, it.number, it.ending)
-        if not octets and (is_last and not it.held or not is_last and not it.ending):
-            raise Malformed("a checkpoint without octets of the message")
-        if octets and it.held:
-            self.put_piece(it.held, units.SYNC)
-            it.held = b""
-        pieces = self.pieces_of(octets, is_last)
+        it.held.append(self.message_octets())
         if is_last:
-            self.put_last([it.held] if it.held else [], pieces)
-        else:
-            self.put_pieces(pieces)
+            self.cut_end()
+            last = it.held.pop()
+            self.release_held(holds=False)
+            return self.put_last(last)
+        if not it.held[-1]:
+            raise Malformed("a checkpoint without octets of the message")
+        if it.ending:
+            self.map.ends_with(self.lane, it.number, it.ending)
+        # where the window is 1 nothing comes before the confirmation
+        return self.release_held(holds=it.ending and self.window > 1 and not (it.left is not None and it.left > 0))
 
-    def pieces_of(self, octets, is_last):
-        it, most = self.transfer, self.size * UNIT or len(octets)
-        if not is_last and it.left != 0:
-            if len(octets) < 2:
+    def may_be_end(self, parts):
+        """Whether these parts may be nothing but what ends the EXTERNAL."""
+        octets = b"".join(parts)
+        return len(octets) <= self.transfer.ending and not octets.strip(b"\0")
+
+    def release_held(self, holds):
+        """Puts what came, but for a part that may be the last one, which has no Sync behind it: behind it there came
+        nothing, or what may be the end of an EXTERNAL alone. The header of the message says how much is still to come;
+        after a restart of the bridge that is not known."""
+        held = self.transfer.held
+        while held and not (holds and self.may_be_end(held[1:])):
+            part = held.pop(0)
+            if len(part) < 2:
                 raise Malformed("a checkpoint behind a single octet")
-            most = min(most, len(octets) - 1)
-        return [piece for piece in (octets[:most], octets[most:]) if piece]
+            cut = min(self.size * UNIT, len(part) - 1)
+            self.put_piece(part[:cut], units.SYNC)
+            self.put_piece(part[cut:], units.SYNC)
 
-    def put_pieces(self, pieces):
+    def cut_end(self):
+        """Takes what ends the EXTERNAL from what was held."""
         it = self.transfer
-        # what may be the last piece is held, but where the window lets nothing come before its confirmation
-        holds = it.ending and (it.left == 0 if it.left is not None else self.window > 1)
-        if holds and pieces:
-            it.held = pieces.pop()
-        for piece in pieces:
-            self.put_piece(piece, units.SYNC)
+        left = it.ending
+        while left and it.held:
+            part = it.held.pop()
+            kept = part[:max(0, len(part) - left)]
+            if part[len(kept):].strip(b"\0"):
+                raise Malformed("the end of an EXTERNAL")
+            left -= len(part) - len(kept)
+            if kept:
+                it.held.append(kept)
+        if left or not it.held or not it.held[-1]:
+            raise Malformed("an end without octets of the message")
 
-    def put_last(self, held, pieces):
-        *before, last = held + pieces
-        for piece in before:
-            self.put_piece(piece, units.SYNC)
-        self.put_piece(last, units.END)
+    def put_last(self, part):
+        cut = self.size * UNIT or len(part)
+        if part[cut:]:
+            self.put_piece(part[:cut], units.SYNC)
+        self.put_piece(part[cut:] or part, units.END)
 
     def put_piece(self, piece, behind):
         self.transfer.queue.append((piece, behind))
@@ -408,6 +396,7 @@ class Association:
             raise Malformed("an Exception of another length")
         self.map.done(self.lane, self.transfer.number)
         self.transfer.queue.clear()
+        self.transfer.held.clear()
         self.state = REFUSED
         self.host.to_peer(self.mode.exception())
 
