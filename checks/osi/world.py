@@ -62,7 +62,7 @@ class World:
 
     def __init__(self, mta, folder, callers=("gold",), mode="twa", size=16, window=3, traced=False, extra="", seed=1,
                  ways=None):
-        self.mta, self.folder, self.callers, self.extra = Path(mta).resolve(), Path(folder), callers, extra
+        self.mta, self.folder, self.callers, self.extra = Path(mta).absolute(), Path(folder), callers, extra
         self.tables = f"{mode} {size} {window}"
         self.base, self.processes, self.kills, self.ways = base_port(), {}, 0, ways or {}
         self.random = random.Random(seed)
