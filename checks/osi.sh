@@ -15,12 +15,12 @@
 #                         octets (80) and K kills of bridges and agents (24): each once. A quarter of them each in
 #                         pieces, in one piece, in EXTERNALs of indefinite length, and with a reference for each
 #                         connection. The full counts are 1000 1000 300
+# shellcheck disable=SC2154,SC2017
 set -u
 cd "$(dirname "$0")/.." || exit 2
-# shellcheck source=checks/program.bash disable=SC2154
 . checks/program.bash
 export PYTHONDONTWRITEBYTECODE=1
-usage() { sed -n '2,21s/^# \{0,1\}//p' "$0"; }
+usage() { sed -n '2,17s/^# \{0,1\}//p' "$0"; }
 osi=checks/osi given=""
 case ${1:-} in
   -h | --help) usage; exit 0 ;;
