@@ -1,8 +1,9 @@
 #!/usr/bin/env bash
 # The bridge mta-osi (contrib/mta-osi): what docs/OSI.md says of it. Run it at the top of the repository.
 #
-#     checks/osi.sh [--program FILE] [WHAT [WORDS..]]       all, or one of these; FILE is the program mta, with mta_audit
-#                                                           beside it
+#     checks/osi.sh [--program FILE] [WHAT [WORDS..]]
+#
+# All, or one of these; FILE is the program mta, with mta_audit beside it.
 #
 #   values [N]            what the codecs write they read: N values a layer (10000)
 #   shapes                shapes of other makers' octets are taken, refused or end both sides
@@ -20,7 +21,7 @@ set -u
 cd "$(dirname "$0")/.." || exit 2
 . checks/program.bash
 export PYTHONDONTWRITEBYTECODE=1
-usage() { sed -n '2,17s/^# \{0,1\}//p' "$0"; }
+usage() { sed -n '2,18s/^# \{0,1\}//p' "$0"; }
 osi=checks/osi given=""
 case ${1:-} in
   -h | --help) usage; exit 0 ;;

@@ -14,6 +14,7 @@ from world import NAMES, TOP, World
 
 LONGEST = 30_000
 BETWEEN = 0.15           # seconds between two looks
+LINES = {"references": "references connection\n", "older": "application-context mts-transfer-protocol\n"}
 FOREIGN = [sys.executable, TOP / "checks" / "osi" / "foreign.py"]
 
 
@@ -64,7 +65,7 @@ def main(mta, folder, messages, breaks, kills, seed="1", seconds="3600", *words)
     messages, breaks, kills, seed = map(int, (messages, breaks, kills, seed))
     random.seed(seed)
     ways = {"out": FOREIGN, "in": FOREIGN} if "indefinite" in words else {}
-    extra = "references connection\n" if "references" in words else ""
+    extra = "".join(line for word, line in LINES.items() if word in words)
     world = World(mta, folder, callers=tuple(NAMES), size=0 if "whole" in words else 3, seed=seed, ways=ways,
                   extra=extra)
     until = time.monotonic() + int(seconds)

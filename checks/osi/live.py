@@ -76,7 +76,8 @@ def memory_of(process):
 
 
 def silent(count):
-    """Connections of which some say nothing, some ask for a transport connection, and some go on with octets at random."""
+    """Connections of which some say nothing, some ask for a transport connection, and some go on with octets
+    at random."""
     links = []
     for number in range(count):
         link = socket.create_connection(("127.0.0.1", PORT), 60)

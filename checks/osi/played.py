@@ -7,6 +7,7 @@ from pathlib import Path
 sys.path.insert(0, str(Path(__file__).resolve().parents[2] / "contrib" / "osi"))
 import associations  # noqa: E402
 import ber  # noqa: E402
+import older  # noqa: E402
 import peers  # noqa: E402
 import rtse  # noqa: E402
 import session  # noqa: E402
@@ -48,7 +49,8 @@ class End:
         self.unread, self.waits = [], False
         lanes = lanes or Unwritten()
         if way == "out":
-            self.association = Called(self, lanes, settings or OUT, NormalMode())
+            settings = settings or OUT
+            self.association = Called(self, lanes, settings, older.mode_named(settings.application_context))
             self.agent = Agent(self)
         else:
             self.association = Calling(self, lanes, settings or [INTO], NormalMode())
@@ -126,7 +128,7 @@ class End:
         was_open = self.transport.open
         try:
             for pdu in self.transport.received(octets):
-                self.unread += it.mode.read(pdu)
+                self.unread += it.read(pdu)
                 self.settle()
             if self.transport.open and not was_open and isinstance(it, Called):
                 it.peer_is_ready()
@@ -217,9 +219,9 @@ ANSWERS = {units.SYNC: units.SYNC_ACK, units.END: units.END_ACK, units.RESUME: u
            units.DISCARD: units.DISCARD_ACK, units.CLOSE: units.CLOSE_ACK}
 
 
-def recorded():
+def recorded(calls=None, called=None):
     """A whole session between two bridges: the packets of either end, in their order."""
-    out, into = End("out"), End("in")
+    out, into = End("out", settings=calls), End("in", settings=called)
     out.agent.begin()
     out.settle()
     found, done = [], {"O": 0, "I": 0}
@@ -232,5 +234,5 @@ def recorded():
                 if not other.association.is_over:
                     other.received(packet)
     assert out.association.ends_well and into.association.ends_well, (out.said, into.said)
-    assert into.agent.got_message == out.agent.got_message == 1
+    assert into.agent.octets == MESSAGE and into.agent.got_message == out.agent.got_message == 1
     return found

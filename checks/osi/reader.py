@@ -1,5 +1,5 @@
-"""Reads a connection that a relay wrote down, by docs/OSI.md alone: reader.py TRACE. It prints a line for each session PDU,
-and ends with 1 at what it cannot read. It shares no code with the bridge; but it was written by the same hand."""
+"""Reads a connection that a relay wrote down, by docs/OSI.md alone: reader.py TRACE. It prints a line for each session
+PDU, and ends with 1 at what it cannot read. It shares no code with the bridge; but it was written by the same hand."""
 import sys
 
 PLAIN = {0x0D: "CONNECT", 0x0E: "ACCEPT", 0x0C: "REFUSE", 0x09: "FINISH", 0x0A: "DISCONNECT", 0x19: "ABORT",

@@ -1,6 +1,6 @@
-"""Shapes that other makers' octets have, made by hand from the standards as they are remembered: each is taken, refused,
-or ends both sides, as docs/OSI.md says. shapes.py"""
-from played import GOLD, INTO, MESSAGE, OUT, End, Unwritten, associations, ber, peers, rtse, session, tpkt, units
+"""Shapes that other makers' octets have, made by hand from the standards as they are remembered: each is taken,
+refused, or ends both sides, as docs/OSI.md says. shapes.py"""
+from played import GOLD, MESSAGE, OUT, End, Unwritten, ber, peers, recorded, rtse, session, tpkt, units
 
 import acse  # noqa: E402
 import presentation  # noqa: E402
@@ -201,8 +201,8 @@ def several_values():
 
 
 def endings():
-    """The end of an EXTERNAL of indefinite length, wherever the last RTTRs are cut, and after a restart of the bridge at
-    the first checkpoint."""
+    """The end of an EXTERNAL of indefinite length, wherever the last RTTRs are cut, and after a restart of the bridge
+    at the first checkpoint."""
     whole = b"\x28\x80\x02\x01\x05\xA0\x80" + MESSAGE + b"\0\0\0\0"
     for cut in range(len(whole) - 9, len(whole)):
         for further in (cut, *range(cut + 2, len(whole))):
@@ -303,7 +303,8 @@ def bare_answers():
         assert called(refusal)[1] == (busy, rtse.plain_refusal(rtse.BUSY))
     mode = NormalMode()
     accept = mode.accept(REFERENCE, Address(), rtse.Opening(2, 3, 0, rtse.Bind(b"SILVER-1", b"theirs")))
-    for pdu in (session.abort(b""), session.abort(ber.element(0x30, ber.integer(1, 0x80))), mode.abort(7), mode.abort(2),
+    provider = session.abort(ber.element(0x30, ber.integer(1, 0x80)))
+    for pdu in (session.abort(b""), provider, mode.abort(rtse.TRANSFER_COMPLETED), mode.abort(rtse.UNRECOGNIZED_ACTIVITY),
                 session.exception(), session.parameter(25, session.parameter(17, b"\5"))):
         told, last = called(accept, pdu)
         assert told[0][0] == units.ACCEPT and last == (abort, rtse.aborted(rtse.TEMPORARY_PROBLEM)), (pdu.hex(), last)
@@ -312,8 +313,21 @@ def bare_answers():
         assert called(accept, pdu)[1] == (abort, rtse.aborted(rtse.PROTOCOL_ERROR))
 
 
-CASES = (versions, functional_units, tokens, segments, transports, contexts, further_components, application_contexts,
-         addresses, binds, several_values, endings, beginnings, resumptions, unknown_lanes, bare_answers)
+def older_mode():
+    """X.410-1984 mode, between two bridges, and where it is not configured: nothing else was there to try it with."""
+    extra = "application-context mts-transfer-protocol\n"
+    called_by = peers.settings_of("in", f"peer {GOLD}\n{extra}")
+    packets = recorded(peers.settings_of("out", f"peer SILVER-1\n{extra}"), [called_by])
+    first = [it for way, it in packets if way == "O"][1]
+    assert session.read(first[7:])[0].values[session.CONNECT_ITEM][session.VERSION] == b"\1"
+    end = End("in")
+    for packet_of in [it for way, it in packets if way == "O"][:2]:
+        end.received(packet_of)
+    assert end.association.is_over and not end.units
+
+
+CASES = (older_mode, versions, functional_units, tokens, segments, transports, contexts, further_components,
+         application_contexts, addresses, binds, several_values, endings, beginnings, resumptions, unknown_lanes, bare_answers)
 
 if __name__ == "__main__":
     for case in CASES:

@@ -10,6 +10,7 @@ import sys
 import time
 import traceback
 
+import older
 import rtse
 import tpkt
 import units
@@ -125,7 +126,7 @@ class Pair:
             await self.drain()
 
     async def from_peer(self, pdu):
-        for primitive in self.association.mode.read(pdu):
+        for primitive in self.association.read(pdu):
             while not self.association.takes_from_peer and not self.association.is_over:
                 self.changed.clear()
                 await self.changed.wait()
@@ -241,7 +242,7 @@ class Outgoing(Pair):
     def __init__(self, bridge, number):
         super().__init__(bridge, number)
         settings = bridge.peers[0]
-        self.association = Called(self, bridge.map, settings, bridge.mode_of(settings))
+        self.association = Called(self, bridge.map, settings, older.mode_named(settings.application_context))
 
     async def serve(self, reader, writer):
         self.agent_writer = writer
@@ -359,9 +360,6 @@ class Bridge:
         self.lanes = Lanes(self, calls)
         self.pairs, self.count, self.failure = {}, 0, None
         self.stopped = asyncio.Event()
-
-    def mode_of(self, settings):
-        return NormalMode()
 
     def fail(self, text):
         self.failure = self.failure or text

@@ -1,4 +1,5 @@
 """How an association is opened: by our agent, which calls the bridge and has it call a peer, or by a peer."""
+import older
 import peers
 import rtse
 import units
@@ -210,6 +211,12 @@ class Calling(Opened):
         super().__init__(host, lanes, None, mode)
         self.known, self.connected, self.is_bind = known, None, True
 
+    def read(self, pdu):
+        """The primitives of a session PDU. The first one says in which mode the peer speaks."""
+        if self.connected is None and older.is_older(pdu):
+            self.mode = older.OlderMode()
+        return self.mode.read(pdu)
+
     def opening_from_peer(self, name, *values):
         if name == "abort" and not self.is_open:
             self.is_over = True
@@ -229,13 +236,17 @@ class Calling(Opened):
             return self.refuse("a mode that is none", rtse.UNACCEPTABLE_MODE)
         calling = asked.calling._replace(transport=self.host.calling_selector())
         called = asked.called._replace(transport=self.host.called_selector())
-        found = peers.candidates(self.known, asked, calling, called, self.host.address())
+        found = peers.candidates(self.known, calling, called, self.host.address())
         if not found:
             return self.refuse("no peer has this address", rtse.VALIDATION_FAILURE if self.is_bind else rtse.BUSY)
-        if asked.context_name != self.mode.context_name:
+        found = [it for it in found if (it.application_context == older.CONTEXT_NAME) == self.is_older()]
+        if asked.context_name != self.mode.context_name or not found:
             self.host.log(f"refused: the application context {asked.context_name}")
             raise Refused(self.mode.refuse_context_name())
         return self.on_bind(found, asked, opening) if self.is_bind else self.on_recovery(found, asked, opening)
+
+    def is_older(self):
+        return self.mode.context_name == older.CONTEXT_NAME
 
     def on_bind(self, found, asked, opening):
         found = [it for it in found if peers.binds(it, opening.bind)]

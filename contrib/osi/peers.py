@@ -222,17 +222,18 @@ def is_same(said, configured):
 
 
 def is_address(said, configured):
-    """Whether an end's address is the one that is configured; what is not configured may be anything."""
-    return all(is_same(*it) for it in zip(said[:3], configured[:3])) and all(
-        is_same(*it) for it in zip(said.title, configured.title))
+    """Whether an end's address is the one that is configured; what is not configured may be anything. In X.410-1984
+    mode nobody says a title."""
+    return all(is_same(*it) for it in zip(said[:3], configured[:3])) and (
+        said.title is None or all(is_same(*it) for it in zip(said.title, configured.title)))
 
 
 def is_from(settings, host):
     return not settings.peer_addresses or any(host in it for it in settings.peer_addresses)
 
 
-def candidates(peers, asked, calling, called, host):
-    """The peers that may call so, from this host. A title that the caller leaves out is no other one."""
+def candidates(peers, calling, called, host):
+    """The peers that may call so, from this host."""
     return [it for it in peers if is_from(it, host) and is_address(calling, it.there) and is_address(called, it.here)]
 
 

@@ -116,6 +116,10 @@ class Association:
         numbers = units.numbers_of(kind, body) if kind in units.NUMBERS else [body]
         return does(self, *numbers)
 
+    def read(self, pdu):
+        """The primitives of a session PDU."""
+        return self.mode.read(pdu)
+
     def from_peer(self, name, *values):
         if not self.is_open or name in OPENING:
             return self.opening_from_peer(name, *values)
