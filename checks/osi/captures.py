@@ -60,7 +60,8 @@ def looked_at(traces):
         wrong += len(shark(capture, "-Y", WRONG).splitlines())
         text += shown
         details += shark(capture, "-V")
-    return frames, wrong, [it for it in NAMED if it not in text], details
+    # what shares a packet with another PDU stands in the details alone
+    return frames, wrong, [it for it in NAMED if it not in text and it not in details], details
 
 
 def main(mta, folder, *reader):

@@ -304,8 +304,9 @@ def bare_answers():
     mode = NormalMode()
     accept = mode.accept(REFERENCE, Address(), rtse.Opening(2, 3, 0, rtse.Bind(b"SILVER-1", b"theirs")))
     provider = session.abort(ber.element(0x30, ber.integer(1, 0x80)))
-    for pdu in (session.abort(b""), provider, mode.abort(rtse.TRANSFER_COMPLETED), mode.abort(rtse.UNRECOGNIZED_ACTIVITY),
-                session.exception(), session.parameter(25, session.parameter(17, b"\5"))):
+    settling = [mode.abort(it) for it in (rtse.TRANSFER_COMPLETED, rtse.UNRECOGNIZED_ACTIVITY)]
+    for pdu in (session.abort(b""), provider, *settling, session.exception(),
+                session.parameter(25, session.parameter(17, b"\5"))):
         told, last = called(accept, pdu)
         assert told[0][0] == units.ACCEPT and last == (abort, rtse.aborted(rtse.TEMPORARY_PROBLEM)), (pdu.hex(), last)
     # a confirmation of what was not put
@@ -327,7 +328,8 @@ def older_mode():
 
 
 CASES = (older_mode, versions, functional_units, tokens, segments, transports, contexts, further_components,
-         application_contexts, addresses, binds, several_values, endings, beginnings, resumptions, unknown_lanes, bare_answers)
+         application_contexts, addresses, binds, several_values, endings, beginnings, resumptions, unknown_lanes,
+         bare_answers)
 
 if __name__ == "__main__":
     for case in CASES:
