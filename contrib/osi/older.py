@@ -94,7 +94,8 @@ class OlderMode(NormalMode):
         primitives.check_proposed(pdu.values, self.version)
         values = primitives.reference_values(pdu.values, session.CALLING_REFERENCE)
         opening = rtse.opening_of(self.apdu(pdu, rtse.REQUEST, 0x84), rtse.REQUEST, None)
-        calling, called = (Address(b"", pdu.values.get(code, b""), b"", None)
+        # no presentation selector can be said, and no title
+        calling, called = (Address(b"", pdu.values.get(code, b""), None, None)
                            for code in (session.CALLING_SELECTOR, session.CALLED_SELECTOR))
         return "connect", Connect(rtse.reference_of(values), calling, called, self.context_name, opening)
 

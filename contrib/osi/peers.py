@@ -218,14 +218,14 @@ def read(path):
 # Which peer calls ------------------------------------------------------------------------------------------
 
 def is_same(said, configured):
-    return not configured or said == configured
+    """Whether what is said, where anything can be, is what is configured, where anything is."""
+    return said is None or not configured or said == configured
 
 
 def is_address(said, configured):
-    """Whether an end's address is the one that is configured; what is not configured may be anything. In X.410-1984
-    mode nobody says a title."""
-    return all(is_same(*it) for it in zip(said[:3], configured[:3])) and (
-        said.title is None or all(is_same(*it) for it in zip(said.title, configured.title)))
+    """Whether an end's address is the one that is configured; what is not configured may be anything."""
+    title = said.title or (None, None)
+    return all(is_same(*it) for it in zip((*said[:3], *title), (*configured[:3], *configured.title)))
 
 
 def is_from(settings, host):
