@@ -314,6 +314,53 @@ def bare_answers():
         assert called(accept, pdu)[1] == (abort, rtse.aborted(rtse.PROTOCOL_ERROR))
 
 
+def denied_discards():
+    """Where a peer is configured so, the discard of what was put whole is not put: our agent is told that the activity
+    is not known. Of an activity whose end was not put it is."""
+    known = peers.settings_of("denies", "peer SILVER-1\ndiscard-after-end deny\n")
+    lanes, mode = Unwritten(), NormalMode()
+    answer = rtse.Opening(2, 3, 0, rtse.Bind(b"SILVER-1", b"theirs"))
+    confirm = tpkt.packet(bytes([6, 0xD0, 0, 1, 0, 9, 0]))
+    end = End("out", lanes, known)
+    end.agent.begin()
+    end.settle()
+    end.received(confirm)
+    end.received(packet(mode.accept(REFERENCE, Address(), answer)))
+    end.received(packet(session.at_point("minor_ack", 2)))
+    for number, word, last in ((1, None, rtse.aborted(rtse.UNRECOGNIZED_ACTIVITY)), (2, "discard", None)):
+        again = End("out", lanes, known)
+        again.agent.begin(recovered=True)
+        again.agent.got = lambda kind, body, it=number: \
+            [(units.DISCARD, it.to_bytes(4, "big"))] if kind == units.ACCEPT else []
+        again.settle()
+        again.received(confirm)
+        resumed = answer._replace(bind=None, recovered=REFERENCE)
+        again.received(packet(mode.accept(REFERENCE, Address(), resumed)))
+        put = [pdu.name for it in again.packets if it[5] == 0xF0 for pdu in session.read(it[7:])]
+        assert ("discard" in put) == (word == "discard"), put
+        assert again.association.last_word == (last and units.unit(units.ABORT, body=last))
+
+
+def names_and_passwords():
+    """Either side has its own."""
+    text = ("peer SILVER-1\npeer-mta-name OTHER MTA/1\npeer-password theirs\npeer-osi-password A b\n"
+            "agent-mta-name GOLD MTA\nagent-osi-password \n")
+    end = End("out", settings=peers.settings_of("out", text))
+    end.agent.begin()
+    end.settle()
+    end.received(tpkt.packet(bytes([6, 0xD0, 0, 1, 0, 9, 0])))
+    asked = NormalMode().read(end.packets[1][7:])[0][1]
+    assert asked.opening.bind == rtse.Bind(b"GOLD MTA", b"") and asked.reference.calling == b"GOLD MTA/0000000001"
+    told = []
+    end.agent.got = lambda kind, body: told.append((kind, body)) or []
+    bind = rtse.Bind(b"OTHER MTA/1", b"A b")
+    end.received(packet(NormalMode().accept(asked.reference, Address(), rtse.Opening(2, 3, 0, bind))))
+    assert rtse.opening_of(told[0][1], rtse.ACCEPTED, None).bind == rtse.Bind(b"SILVER-1", b"theirs")
+    wrong = NormalMode().accept(asked.reference, Address(), rtse.Opening(2, 3, 0, bind._replace(password=b"a b")))
+    assert called(wrong, settings=peers.settings_of("out", text))[1] == (
+        units.ABORT, rtse.aborted(rtse.PERMANENT_PROBLEM))
+
+
 def older_mode():
     """X.410-1984 mode, between two bridges, and where it is not configured: nothing else was there to try it with."""
     extra = "application-context mts-transfer-protocol\n"
@@ -327,9 +374,9 @@ def older_mode():
     assert end.association.is_over and not end.units
 
 
-CASES = (older_mode, versions, functional_units, tokens, segments, transports, contexts, further_components,
-         application_contexts, addresses, binds, several_values, endings, beginnings, resumptions, unknown_lanes,
-         bare_answers)
+CASES = (denied_discards, names_and_passwords, older_mode, versions, functional_units, tokens, segments, transports,
+         contexts, further_components, application_contexts, addresses, binds, several_values, endings, beginnings,
+         resumptions, unknown_lanes, bare_answers)
 
 if __name__ == "__main__":
     for case in CASES:

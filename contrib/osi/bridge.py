@@ -311,9 +311,9 @@ class Lanes:
 
     def __init__(self, bridge, calls):
         self.bridge, self.pairs, self.blocked = bridge, {}, {}
-        if calls:
-            for lane in bridge.map.lanes.values():
-                self.block(lane) if lane.is_up and not lane.is_closed else None
+        left = [it for it in bridge.map.lanes.values() if it.is_up and not it.is_closed] if calls else []
+        for lane in left:
+            self.block(lane)
 
     def block(self, lane):
         seconds = next((it.unseen_end for it in self.bridge.peers if it.peer == lane.peer), 0)

@@ -77,7 +77,7 @@ def title(text):
     """The title of an application process: an object identifier, or `hex:` and the element of a Name."""
     if text.startswith("hex:"):
         return octets(text)
-    if not re.fullmatch(r"[0-2](\.\d{1,9}){1,30}", text):
+    if not re.fullmatch(r"([01]\.[1-3]?\d|2\.\d{1,9})(\.\d{1,9}){0,30}", text):
         raise BadSettings("an AP title is an object identifier, as 2.6.0, or hex: and an element")
     return ber.object_identifier(text)
 
