@@ -132,8 +132,10 @@ class Called(Opened):
         """The transport connection to the peer stands."""
         reference = self.new_reference()
         self.session = self.map.connect(self.lane, reference)
-        size = bounded(larger(self.request.checkpoint), self.settings.checkpoint)
-        window = bounded_window(self.request.window, self.settings.window)
+        # a lane that is resumed keeps its values, whatever the settings say by now
+        is_new = self.request.recovered is None
+        size = bounded(larger(self.request.checkpoint), self.settings.checkpoint if is_new else None)
+        window = bounded_window(self.request.window, self.settings.window if is_new else None)
         asked = Opening(size, window, self.request.mode, self.bind(), self.recovered())
         self.asked_for = asked
         self.host.to_peer(self.mode.connect(reference, self.settings.there, self.settings.here, asked))
