@@ -18,6 +18,7 @@ from concurrent.futures import ThreadPoolExecutor
 TOP = os.path.dirname(os.path.dirname(os.path.abspath(__file__)))
 CONTRIB = f"{TOP}/contrib"
 sys.path.insert(0, f"{CONTRIB}/lib")
+import dissected  # noqa: E402
 import journal  # noqa: E402
 import p1  # noqa: E402
 import p22  # noqa: E402
@@ -597,23 +598,17 @@ def try_message():
 
 
 def by_wireshark(apdu):
-    if not all(shutil.which(it) for it in ("tshark", "text2pcap")):
+    if not dissected.is_there():
         print("skipped: tshark is not on the PATH")
         return
-    dump = "".join(f"{at:06x} {apdu[at:at + 16].hex(' ')}\n" for at in range(0, len(apdu), 16)).encode()
-    ran(["text2pcap", "-q", "-l", "147", "-", f"{MADE}/pcap"], octets=dump)
-    words = ["tshark", "-r", f"{MADE}/pcap", "-X", f"lua_script:{TOP}/checks/outside.lua", "-V"]
-    text = ran(words).decode()
+    text = dissected.text_of(apdu, MADE, TOP)
     # each of them stands in the dissector's text of the standard's part
-    for line in ("X.420 Information Object", "user-relative-identifier: B0001", "subject: A plan",
-                 "data: First line\\r\\nand the last one\\r\\n", "direct-reference: 2.6.1.4.12 (id-et-file-transfer)",
-                 "incomplete-pathname: 1 item", "one.bin", "two.txt", "primary-recipients: 2 items",
-                 "copy-recipients: 1 item", "body: 3 items", "LatestDeliveryTime: 27-01-01 00:00:00 (UTC)"):
-        if line not in text:
-            raise Wrong(f"Wireshark's dissector does not show {line!r} in\n{text}")
-    for bad in ("Malformed", "Dissector bug", "BER Error", "Unknown"):
-        if bad in text:
-            raise Wrong(f"Wireshark's dissector finds {bad!r} in\n{text}")
+    lines = ("X.420 Information Object", "user-relative-identifier: B0001", "subject: A plan",
+             "data: First line\\r\\nand the last one\\r\\n", "direct-reference: 2.6.1.4.12 (id-et-file-transfer)",
+             "incomplete-pathname: 1 item", "one.bin", "two.txt", "primary-recipients: 2 items",
+             "copy-recipients: 1 item", "body: 3 items", "LatestDeliveryTime: 27-01-01 00:00:00 (UTC)")
+    if wrong := dissected.lacks(text, lines):
+        raise Wrong(f"Wireshark's dissector: {'; '.join(wrong)} in\n{text}")
 
 
 # texts of tables, each with words that the tool has to say of it, or none where it is good

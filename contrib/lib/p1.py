@@ -72,6 +72,16 @@ def name_from(text):
     return Name(sorted(parts, key=lambda it: PARTS.index(it[0]) if it[0] in PARTS else len(PARTS)))
 
 
+def complete(name):
+    """The name, where somebody can be reached by it: X.402 has a country and an administration domain in each, but in
+    that of a terminal."""
+    if name.one("X121") is None:
+        for key, what in (("C", "country"), ("A", "administration domain")):
+            if name.one(key) is None:
+                raise BadName(f"{name.text()} has no {what}, {key}=")
+    return name
+
+
 # ---- reading
 
 

@@ -16,15 +16,18 @@ def spool_path(word):
     return os.path.join(word, SPOOL) if os.path.isdir(word) else word
 
 
+def called(name):
+    """The name by which a tool was called: it is installed under another one here and there."""
+    return os.path.basename(sys.argv[0]) or name
+
+
 def parser(name, text, **more):
-    # a tool is installed under another name here and there
-    name = os.path.basename(sys.argv[0]) or name
-    return argparse.ArgumentParser(prog=name, description=text, formatter_class=argparse.RawDescriptionHelpFormatter,
-                                   **more)
+    return argparse.ArgumentParser(prog=called(name), description=text,
+                                   formatter_class=argparse.RawDescriptionHelpFormatter, **more)
 
 
 def fail(name, text, status=2):
-    print(f"{name}: {text}", file=sys.stderr)
+    print(f"{called(name)}: {text}", file=sys.stderr)
     sys.exit(status)
 
 
@@ -37,6 +40,8 @@ def run(name, main):
         sys.exit(130)
     except (journal.NotASpool, ber.Fault) as why:
         fail(name, why)
+    except RecursionError:
+        fail(name, "elements are nested too deep")
     except OSError as why:
         fail(name, f"{why.filename}: {why.strerror}" if why.filename else why)
 
