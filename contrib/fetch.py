@@ -1,18 +1,24 @@
 #!/usr/bin/env python3
-"""Fetches an entry of a mailbox, and writes its content to a file: fetch.py MAILBOX N FILE.
+"""Fetches an entry of a mailbox, also while the agent serves, and writes its content to a file.
 
-It runs `mta_store fetch MAILBOX N` in the folder in which it is called, takes the octets of the `content` line, which
-is the last, and puts them into FILE, which is written beside it first and is on the disk when this ends with status 0.
-Then the entry may go: `mta_store delete MAILBOX N`. Whatever goes wrong, it may be fetched again. A report has no
-content: it is told so, with status 20. Status 21 says that FILE was not written, and 2 that the words are others or
-that there is no program. MTA_STORE names the program, where it is not on the PATH. Where the program ends with a status
-that is not 0, so does this, and its line goes to standard error.
+It fetches entry N of MAILBOX as mta-box does, of the agent in the current folder or in that of --folder, takes the
+octets of the `content` line, which is the last, and puts them into FILE, which is written beside it first and is on the
+disk when this ends with status 0. Then the entry may go: `mta-box FOLDER delete MAILBOX N`. Whatever goes wrong, it may
+be fetched again. With --as USER it has `sudo -u USER mta-box` fetch the entry, so FILE is the caller's own.
+
+A report has no content: status 20 says so. Status 21 says that FILE was not written, and 2 that the words are others or
+that there is no spool or no program. MTA_STORE names mta_store, where it is not on the PATH. Where mta_store ends with
+a status that is not 0, so does this, and its line goes to standard error.
 """
 import os
 import subprocess
 import sys
 
-WRONG_WORDS, NO_CONTENT, NOT_WRITTEN = 2, 20, 21
+sys.path.insert(0, os.path.join(os.path.dirname(os.path.realpath(__file__)), "lib"))
+import boxes  # noqa: E402
+import tool  # noqa: E402
+
+NO_CONTENT, NOT_WRITTEN = 20, 21
 
 
 def content_of(text):
@@ -40,40 +46,41 @@ def put(path, octets):
         os.close(folder)
 
 
-def fetched(program, mailbox, number):
-    """The text of an entry and status 0, or what the program says and its status."""
-    done = subprocess.run([program, "fetch", mailbox, number], stdout=subprocess.PIPE, text=True, check=False)
-    return done.stdout, done.returncode
+def fetched(said):
+    """The text of an entry and status 0, or what mta_store says and its status."""
+    words = ["fetch", said.mailbox, said.number]
+    if said.user is None:
+        octets, status = boxes.called(said.folder, words, tool="mta-fetch")
+    else:
+        command = ["sudo", "-n", "-u", said.user, "--", "mta-box", os.path.abspath(said.folder), *words]
+        ran = subprocess.run(command, stdin=subprocess.DEVNULL, stdout=subprocess.PIPE, check=False)
+        octets, status = ran.stdout, ran.returncode
+    return octets.decode("latin-1"), status
 
 
-def said(line, status):
-    """Tells what went wrong, and answers its status."""
-    sys.stderr.write(line)
-    return status
+def words_of():
+    it = tool.parser("mta-fetch", __doc__)
+    it.add_argument("mailbox", metavar="MAILBOX")
+    it.add_argument("number", metavar="N")
+    it.add_argument("path", metavar="FILE")
+    it.add_argument("--folder", metavar="FOLDER", default=".", help="the agent's; the current one where it is absent")
+    it.add_argument("--as", metavar="USER", dest="user", help="fetch it as this user, by sudo")
+    return it
 
 
-def main(words):
-    if words in (["--help"], ["-h"]):
-        print(__doc__.strip())
-        return 0
-    if len(words) != 3:
-        return said("usage: fetch.py MAILBOX N FILE\n", WRONG_WORDS)
-    mailbox, number, path = words
-    try:
-        text, status = fetched(os.environ.get("MTA_STORE", "mta_store"), mailbox, number)
-    except OSError as why:
-        return said(f"fetch.py: {why}\n", WRONG_WORDS)
+def main():
+    said = words_of().parse_args()
+    text, status = fetched(said)
     if status:
-        return said(text, status)
+        sys.stderr.write(text)
+        sys.exit(status if status > 0 else 128 - status)
     octets = content_of(text)
     if octets is None:
-        return said(f"fetch.py: entry {number} has no content\n", NO_CONTENT)
+        tool.fail("mta-fetch", f"entry {said.number} has no content", NO_CONTENT)
     try:
-        put(path, octets)
+        put(said.path, octets)
     except OSError as why:
-        return said(f"fetch.py: {why}\n", NOT_WRITTEN)
-    return 0
+        tool.fail("mta-fetch", f"{said.path}: {why.strerror}", NOT_WRITTEN)
 
 
-if __name__ == "__main__":
-    sys.exit(main(sys.argv[1:]))
+tool.run("mta-fetch", main)

@@ -162,8 +162,13 @@ def unix_of(moment):
     return moment + FROM_1950
 
 
+def clock_text(seconds):
+    """Seconds since 1970 as the tools print them."""
+    return time.strftime("%Y-%m-%dT%H:%M:%SZ", time.gmtime(seconds))
+
+
 def moment_text(moment):
-    return time.strftime("%Y-%m-%dT%H:%M:%SZ", time.gmtime(unix_of(moment)))
+    return clock_text(unix_of(moment))
 
 
 def utc_time(moment):

@@ -15,7 +15,7 @@ class Tables:
     """What the text of the tables has of lists and mailboxes."""
 
     def __init__(self, text=""):
-        self.lists, self.mailboxes = {}, {}
+        self.text, self.lists, self.mailboxes = text, {}, {}
         self.domain = self.name = None
         for line in text.split("\n"):
             word, _, rest = line.partition(" ")
