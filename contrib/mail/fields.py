@@ -191,7 +191,7 @@ def utc_time(text):
 
 def date_text(seconds):
     """Seconds since 1970 as a date."""
-    return email.utils.formatdate(seconds)
+    return email.utils.format_datetime(datetime.datetime.fromtimestamp(seconds, datetime.timezone.utc))
 
 
 def utc_seconds(utc):

@@ -5,7 +5,7 @@ import sys
 import x690 as ber
 from mail import addresses, fields, to_mail, to_x400
 from mail.fetched import fetched
-from mail.refusals import CANNOT_BE_READ, NOT_A_USER, NOT_WRITTEN, WRONG_SET_UP, Refused
+from mail.refusals import CANNOT_BE_READ, NOT_WRITTEN, WRONG_SET_UP, Refused
 from mail.sent import Sent
 from mail.table import BadTable, table_of
 from mail.to_mail import Way
@@ -122,6 +122,3 @@ def run(said, source, output, seconds):
     # to a terminal or a pipe of mail this is what a message is returned with, so it is no part of what was made
     (sys.stderr if not said.drop and not said.to_x400 else output).write(line + "\n")
     return status
-
-
-__all__ = ["NOT_A_USER", "run"]

@@ -1,6 +1,6 @@
 """The heading of an interpersonal message (X.420), all fields of it, written and read."""
 import x690 as ber
-from mail.names import Descriptor, IpmIdentifier, descriptor_of, identifier_of, tags
+from mail.names import descriptor_of, identifier_of, tags
 from texts import of_teletex, teletex
 from x690 import APPLICATION, CONTEXT, element, sequence, set_of, tagged
 
@@ -156,6 +156,3 @@ def subject_octets(text):
             octets, _ = teletex(text)
         return octets, False
     return octets, is_whole
-
-
-__all__ = ["Descriptor", "Heading", "IpmIdentifier", "Recipient", "heading_of", "octets_of", "subject_octets"]

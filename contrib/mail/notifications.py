@@ -1,7 +1,7 @@
 """Notifications of X.420 (receipt and non-receipt), written and read."""
 import x690 as ber
-from mail.names import Descriptor, descriptor_of, identifier_of, tags
-from x690 import APPLICATION, CONTEXT, element, set_of, tagged
+from mail.names import descriptor_of, identifier_of, tags
+from x690 import APPLICATION, CONTEXT, element, tagged
 
 MANUAL, AUTOMATIC = 0, 1
 DISCARDED, AUTO_FORWARDED = 0, 1  # reasons of a non-receipt
@@ -57,6 +57,3 @@ def notification_of(it):
         made.reason, made.discard_reason = number_in(inside, 0, DISCARDED), number_in(inside, 1, None)
         made.comment = inside[CONTEXT, 2].text() if (CONTEXT, 2) in inside else None
     return made
-
-
-__all__ = ["Descriptor", "Notification", "content_of", "notification_of", "set_of"]

@@ -1,14 +1,12 @@
 """The body parts of an interpersonal message of the parts of a mail (MIME)."""
-import base64
-import binascii
 import mimetypes
 import re
 
 import texts
 import x690 as ber
-from mail import bodies, fields, structure
+from mail import fields, structure
 from mail.bodies import MOST_NESTED, File, Message, Other, Text
-from mail.heading_from_mail import heading_from
+from mail.heading_from_mail import ascii_line, heading_from
 from mail.refusals import CANNOT_BE_READ, Refused
 
 MOST_PARTS = 1000
@@ -35,10 +33,11 @@ def octets_of(message):
 
 
 def lines_of(part):
-    """The fields of a part that tell what it is."""
-    for name, value in fields.fields_of(part):
-        if KEPT.fullmatch(name):
-            yield f"{name}: {value if value.isascii() and value.isprintable() else fields.unstructured(value)}"
+    """The fields of a part that tell what it is. Without a disposition it is one that is shown."""
+    found = [(name, value) for name, value in fields.fields_of(part) if KEPT.fullmatch(name)]
+    if not any(name.lower() == "content-disposition" for name, _ in found):
+        found.append(("Content-Disposition", "inline"))
+    return [ascii_line(*it) for it in found]
 
 
 def name_of(part):
@@ -142,6 +141,3 @@ def message_of(message, table, sender, nested=0, identifier="no identifier"):
     if not structure.is_flat(node, len(walk.parts)):
         head.fields.append(f"{structure.FIELD}: {structure.text_of(node)}")
     return head, walk.parts
-
-
-__all__ = ["base64", "binascii", "bodies", "message_of"]

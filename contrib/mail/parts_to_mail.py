@@ -6,7 +6,7 @@ import re
 
 from mail import fields, structure
 from mail.bodies import File, Message, Text
-from mail.heading_to_mail import fields_of, kept_fields
+from mail.heading_to_mail import fields_of
 from mail.identifiers import digest_of
 
 LONGEST_LINE = 900
@@ -22,9 +22,12 @@ class Entity:
     def __init__(self, found, body):
         self.fields, self.body = found, body
 
+    def head(self):
+        """The fields as octets."""
+        return "".join(fields.folded(name, value) + "\n" for name, value in self.fields).encode("ascii")
+
     def octets(self):
-        head = "".join(fields.folded(name, value) + "\n" for name, value in self.fields)
-        return head.encode("ascii") + b"\n" + self.body
+        return self.head() + b"\n" + self.body
 
 
 def is_plain(octets):
@@ -129,16 +132,9 @@ def body_entity(parts, head, table, place):
     """The body of parts, by the structure that the heading names."""
     if not parts:
         return text_entity("")
-    named = [value for name, value in LINES(head) if name.lower() == structure.FIELD.lower()]
-    node = structure.structure_of(named[0], len(parts)) if named else structure.flat(len(parts))
+    named = next((it for it in head.fields if it.lower().startswith(f"{structure.FIELD.lower()}: ")), None)
+    node = structure.structure_of(named.partition(": ")[2], len(parts)) if named else structure.flat(len(parts))
     return node_entity(node, [entity_of(it, table, f"{place}{at}") for at, it in enumerate(parts)], place)
-
-
-def LINES(head):
-    for each in head.fields:
-        name, colon, value = each.partition(": ")
-        if colon:
-            yield name, value
 
 
 def message_entity(head, parts, table, place="", before=()):
@@ -146,6 +142,3 @@ def message_entity(head, parts, table, place="", before=()):
     body = body_entity(parts, head, table, place or "x")
     found = [*before, *fields_of(head, table), ("MIME-Version", "1.0"), *body.fields]
     return Entity(found, body.body)
-
-
-__all__ = ["kept_fields", "message_entity", "multipart", "text_entity"]

@@ -12,25 +12,28 @@ import json
 import os
 import time
 
+import drop
+
 KEPT_SECONDS = 60 * 86400
-LOCK = ".lock"
-STAGED = ".mail-"
-
-
-def sync_folder(path):
-    folder = os.open(path, os.O_RDONLY)
-    try:
-        os.fsync(folder)
-    finally:
-        os.close(folder)
+LOCK, BESIDE = ".lock", ".mail-"
+READABLE = 0o640  # by the group of those who take what was dropped
 
 
 def written(path, octets):
-    """A file of these octets, on the disk."""
+    """Writes a file of these octets into its folder, and makes both durable."""
     with open(path, "wb") as file:
         file.write(octets)
         file.flush()
+        os.fchmod(file.fileno(), READABLE)
         os.fsync(file.fileno())
+        drop.sync_folder(os.path.dirname(path), file.fileno())
+
+
+def renamed(path, to):
+    """Gives a file another name in its folder, and makes that durable."""
+    os.rename(path, to)
+    with open(to, "rb") as file:
+        drop.sync_folder(os.path.dirname(to), file.fileno())
 
 
 @contextlib.contextmanager
@@ -53,30 +56,31 @@ class Sent:
     def record(self, local):
         """What was kept of a message; nothing where there is no record."""
         try:
-            with open(self.path(local), encoding="utf-8") as file:
-                return json.load(file)
+            with open(self.path(os.path.basename(local)), encoding="utf-8") as file:
+                found = json.load(file)
         except (OSError, ValueError):
             return {}
+        return found if isinstance(found, dict) else {}
 
-    def put(self, local, apdu, kept, drop):
-        """Drops an APDU, once."""
-        inside = os.path.join(drop, "in")
-        staged, dropped = os.path.join(inside, STAGED + local), os.path.join(inside, local)
+    def put(self, local, apdu, kept, folder):
+        """Drops an APDU into a drop folder, once."""
+        staged, dropped = (os.path.join(folder, drop.IN, it) for it in (BESIDE + local, local))
         with locked(self.folder):
             if not os.path.exists(self.path(local)):
                 written(staged, apdu)
-                sync_folder(inside)
-                beside = self.path(STAGED + local)
-                written(beside, json.dumps(kept).encode("utf-8"))
-                os.rename(beside, self.path(local))
-                sync_folder(self.folder)
-            with contextlib.suppress(FileNotFoundError):
+                self.keep(local, kept)
+            if os.path.exists(staged):
                 os.rename(staged, dropped)
-                sync_folder(inside)
+                drop.sync_folder(os.path.join(folder, drop.IN))
+
+    def keep(self, name, kept):
+        """Makes a record of something that was done."""
+        written(self.path(BESIDE + name), json.dumps(kept).encode("utf-8"))
+        renamed(self.path(BESIDE + name), self.path(name))
 
     def forget_old(self, now=None):
         """Removes records of which no report comes any more."""
-        limit = (now or time.time()) - KEPT_SECONDS
-        for each in os.scandir(self.folder):
+        limit = (time.time() if now is None else now) - KEPT_SECONDS
+        for each in list(os.scandir(self.folder)):
             if each.name != LOCK and each.stat().st_mtime < limit:
                 os.remove(each.path)

@@ -2,6 +2,7 @@
 import base64
 
 import p1
+import reports
 import x690 as ber
 from mail import addresses, bodies, codes, fields, heading, identifiers, notifications, trace
 from mail.fetched import Message
@@ -18,8 +19,8 @@ PRIORITY_NAMES = {1: "non-urgent", 2: "urgent"}
 class Mail:
     """A mail: the sender of its envelope, which is empty for what nobody answers, its recipient, and its octets."""
 
-    def __init__(self, sender, recipient, entity):
-        self.sender, self.recipient, self.octets = sender, recipient, entity.octets()
+    def __init__(self, sender, recipient, octets):
+        self.sender, self.recipient, self.octets = sender, recipient, octets
 
 
 class Way:
@@ -152,10 +153,10 @@ def message_mail(found, way):
     if isinstance(read, notifications.Notification):
         return notification_mail(found, read, way)
     if read is None:
-        return Mail(sender, way.user.address, raw_entity(found, way))
+        return Mail(sender, way.user.address, raw_entity(found, way).octets())
     head, parts = read
-    return Mail(sender, way.user.address, message_entity(head, parts, way.table, before=before_heading(found, head,
-                                                                                                       way)))
+    made = message_entity(head, parts, way.table, before=before_heading(found, head, way))
+    return Mail(sender, way.user.address, made.octets())
 
 
 # ---- what became of a message
@@ -168,7 +169,7 @@ def told_mail(kind, way, subject, words, second, third, found_before):
     made = [*found_before, ("Date", fields.date_text(way.seconds)), ("From", f"X.400 gateway <{way.postmaster()}>"),
             ("To", way.user.address), ("Subject", subject), ("Auto-Submitted", "auto-replied"),
             ("MIME-Version", "1.0")]
-    return Mail("", way.user.address, Entity([*made, *body.fields], body.body))
+    return Mail("", way.user.address, Entity([*made, *body.fields], body.body).octets())
 
 
 def group(pairs):
@@ -181,7 +182,7 @@ def row_fields(row, way):
     if row.delivered:
         action, status, words = "delivered", "2.1.5", None
     else:
-        action, status, words = "failed", codes.status_of(row.diagnostic), codes.words_of(row.reason, row.diagnostic)
+        action, status, words = "failed", codes.status_of(row.diagnostic), reports.words(row.reason, row.diagnostic)
     diagnostic = "-" if row.diagnostic is None else row.diagnostic
     code = f"x400; {row.reason} {diagnostic} ({words})" if words else None
     return [("Original-Recipient", f"rfc822; {address}"), ("Final-Recipient", f"x400; {addresses.text_of(row.name)}"),
@@ -196,7 +197,7 @@ def row_words(row, way):
     if row.delivered:
         return f"{address}\n    was delivered, {trace.moment_text(row.delivered)}\n"
     more = f"\n    {fields.plain(row.supplement)}" if row.supplement else ""
-    return f"{address}\n    was not delivered: {codes.words_of(row.reason, row.diagnostic)}{more}\n"
+    return f"{address}\n    was not delivered: {reports.words(row.reason, row.diagnostic)}{more}\n"
 
 
 def status_entity(groups):
@@ -277,12 +278,21 @@ def loop_mail(found, why, way):
     row = group([("Final-Recipient", f"rfc822; {way.user.address}"), ("Action", "failed"), ("Status", why.code),
                  ("Diagnostic-Code", f"x-mta-mail; {why.words}")])
     words = f"Your message to {way.user.address} was not delivered:\n{why.words}.\n"
-    third = headers_entity([("X400-MTS-Identifier", identifier_text(found.identifier))])
+    third = headers_entity([it for it in envelope_fields(found, way)
+                            if it[0] in ("X400-MTS-Identifier", "X400-Recipient")])
     made = told_mail("delivery-status", way, "Your message was not delivered", words, status_entity([first, row]),
                      third, [("Message-ID", f"<{identifiers.digest_of(own_id(found) + way.user.mailbox)}"
                               f"@{way.table.gateway}>")])
     made.recipient = sender
     return made
+
+
+def joined_mail(found, octets, way):
+    """A mail that came in pieces, the last of which was found here, with the fields of its way before its own."""
+    trace.check_way(found.domains, found.agents, way.table)
+    before = [way.received(found.identifier[1]), *trace_fields(found), *envelope_fields(found, way)]
+    sender = addresses.address_of_name(found.originator, way.table)
+    return Mail(sender, way.user.address, Entity(before, b"").head() + octets)
 
 
 def mail_of(found, way, sent=None):
