@@ -118,7 +118,9 @@ class _Item:
     def mailbox(self):
         phrase = "".join(self.phrase).strip()
         if self.angle is None:
-            address = "".join(it if it.startswith('"') else it.strip() for it in self.phrase)
+            # who types /C=GB/A=GOLD 400/S=BELL/@.. mostly forgets the quotes
+            address = phrase if phrase.startswith("/") else "".join(it if it.startswith('"') else it.strip()
+                                                                    for it in self.phrase)
             return Mailbox(address, "", self.comments) if phrase else None
         # a source route stands before the address
         address = re.sub(r"^@[^:]*:", "", "".join(self.angle).strip())
@@ -131,16 +133,16 @@ def mailboxes(text):
 
     def end():
         nonlocal item
-        made = item.mailbox()
+        made, comments, item = item.mailbox(), item.comments, _Item()
         if made is not None:
             found.append(made)
-        item = _Item()
+        return comments
 
     for piece in tokens(text):
         if piece in (",", ";") and not item.is_inside:
-            end()
+            comments = end()
             if piece == ";" and group is not None and group[1] == len(found):
-                found.append(Mailbox(None, group[0]))
+                found.append(Mailbox(None, group[0], comments))
             group = None if piece == ";" else group
         elif piece == ":" and not item.is_inside and item.angle is None:
             group = (decoded(unquoted("".join(item.phrase))).strip(), len(found))
@@ -166,7 +168,7 @@ def mailbox_text(box):
     """An address as a field has it."""
     comments = "".join(f" {comment_text(it)}" for it in box.comments)
     if box.address is None:
-        return f"{word_text(box.display)}: ;"
+        return f"{word_text(box.display)}:{comments} ;"
     return (f"{word_text(box.display)} <{box.address}>" if box.display else box.address) + comments
 
 

@@ -83,7 +83,8 @@ class Reader:
     def identifiers(self, field):
         texts = [it for value in self.values(field) for it in fields.message_ids(value)]
         made = [identifiers.ipm_identifier(it) for it in texts]
-        if not all(is_whole for _, is_whole in made) or self.values(field) and not made:
+        left = "".join(fields.MESSAGE_ID.sub("", value) for value in self.values(field))
+        if not all(is_whole for _, is_whole in made) or left.strip():
             self.keep(field)
         return [it for it, _ in made]
 
@@ -177,9 +178,10 @@ def kept_lines(it):
 
 
 def ask_all(made, it):
-    """A wish for a receipt is one to all recipients."""
-    if it.value("disposition-notification-to"):
-        for each in made.to + made.copies:
+    """A wish for a receipt is one to all recipients, where no comment says whose it is."""
+    found = made.to + made.copies
+    if it.value("disposition-notification-to") and not any("receipt" in each.requests for each in found):
+        for each in found:
             each.requests = tuple({*each.requests, "receipt", "non-receipt"})
 
 

@@ -16,11 +16,12 @@ FOREIGN = re.compile(r"(content-.*|mime-version|return-path|bcc|resent-bcc|x400-
 
 def mailbox_of(descriptor, table, comments=()):
     """A descriptor as an address: one without a formal name is the name of an empty group."""
-    telephone = [f"Tel {descriptor.telephone}"] if descriptor.telephone else []
+    telephone = [f"Tel {fields.plain(descriptor.telephone)}"] if descriptor.telephone else []
+    comments = [*telephone, *comments]
     if descriptor.name is None:
-        return Mailbox(None, fields.plain(descriptor.free or "unknown"))
+        return Mailbox(None, fields.plain(descriptor.free or "unknown"), comments)
     address = addresses.address_of_name(descriptor.name, table)
-    return Mailbox(address, fields.plain(descriptor.free or ""), [*map(fields.plain, telephone), *comments])
+    return Mailbox(address, fields.plain(descriptor.free or ""), comments)
 
 
 def recipient_box(recipient, table):
