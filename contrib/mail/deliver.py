@@ -10,8 +10,11 @@ import os
 import subprocess
 import tempfile
 
+import copies
+from boxes import MARKS
 from mail import fields, pieces, to_mail
 from mail.fetched import Message
+from mail.identifiers import digest_of
 from mail.mailbox import Boxes
 from mail.pieces import Group
 from mail.refusals import Refused
@@ -95,8 +98,10 @@ class Deliverer:
             self.give_joined(found, piece.key, groups.pop(piece.key), user)
 
     def run_mailboxes(self, mailboxes):
+        had, emptied = self.boxes.deliveries(), Emptied(self.sent, self.said.folder)
         users = [it for it in self.table.users if not mailboxes or it.mailbox in mailboxes]
-        waiting = [(user, self.boxes.new(user.mailbox)) for user in users]
+        waiting = [(user, self.boxes.new(user.mailbox)) for user in users
+                   if had.get(user.mailbox) != emptied.had.get(user.mailbox)]
         entries = [it for _, found in waiting for it in found]
         items = self.boxes.items(entries) if entries else None
         for user, found in waiting:
@@ -105,6 +110,10 @@ class Deliverer:
                 self.give_entry(entry, user, items, groups)
             for group in groups.values():
                 self.told(f"mailbox {user.mailbox} has {len(group.pieces)} of {group.total} pieces of a mail")
+            if not groups and self.left == 0:
+                emptied.had[user.mailbox] = had[user.mailbox]
+        if waiting:
+            emptied.keep()
         self.sent.forget_old(self.seconds)
 
     def run(self):
@@ -113,6 +122,20 @@ class Deliverer:
             self.boxes = Boxes(self.said.folder, made, self.said.mta_store)
             self.run_mailboxes(set(self.said.mailbox))
         return self.left == 0
+
+
+class Emptied:
+    """Which deliveries a mailbox had had when nothing was left in it. As long as it has had no others nothing can be
+    new, so that it need not be asked for. It holds for the spool and the marks that are there now."""
+
+    def __init__(self, sent, folder):
+        self.sent, self.name = sent, f"emptied-{digest_of(os.path.realpath(folder), 16)}"
+        self.files = [os.stat(os.path.join(folder, it)).st_ino for it in (copies.SPOOL, MARKS)]
+        kept = sent.record(self.name)
+        self.had = dict(kept["had"]) if kept.get("files") == self.files else {}
+
+    def keep(self):
+        self.sent.keep(self.name, {"files": self.files, "had": self.had})
 
 
 @contextlib.contextmanager

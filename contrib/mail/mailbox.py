@@ -56,6 +56,23 @@ class Boxes:
             raise Failed(f"{os.path.basename(self.program)} {' '.join(words)}: {said[-1] if said else ran.returncode}")
         return ran.stdout if ran.returncode == 0 else b""
 
+    def deliveries(self):
+        """How many deliveries each mailbox has had, and the moment of the last one. None of them goes out of a spool."""
+        it, found = state.State(), {}
+
+        def add(mailbox, moment):
+            found[mailbox] = [found.get(mailbox, [0])[0] + 1, moment]
+
+        for word, fields in self.journal().steps():
+            meant = it.take(word, fields)
+            if word == "deliver":
+                add(meant["mailbox"](), fields["moment"])
+            elif word == "snapshot":
+                found = {}
+                for each in fields["deliveries"]:
+                    add(bytes(each["mailbox"]).decode("ascii"), each["moment"])
+        return found
+
     def new(self, mailbox):
         """What is new in a mailbox; nothing where the tables that were recorded do not name it yet."""
         lines = self.called("marked", "list", mailbox, others=(NO_SUCH_MAILBOX,)).decode("ascii").splitlines()
