@@ -1,8 +1,8 @@
 #!/usr/bin/env python3
 """Mail through two gateways and two agents, with Postfix on either side: checks/mail/postfix.py MTA MTA_STORE FOLDER
-[KILLS].
+[KILLS [kills]].
 
-anna@one.example has the gateway of GOLD, watt and morse at two.example that of SILVER. What goes and what comes back is
+With the word kills nothing else is tried. anna@one.example has the gateway of GOLD, watt and morse at two.example that of SILVER. What goes and what comes back is
 read by IMAP, where dovecot is installed. Then KILLS processes (200) are killed at random while mails go; none is lost,
 and those that come twice are counted.
 """
@@ -287,6 +287,10 @@ def killed_meanwhile(host, kills):
         raise Wrong("more came twice than there were kills")
 
 
+FLOWS = (plain_and_accented, page_with_picture, five_mebibytes, a_list, unknown_recipient, bad_address, receipt, answer,
+         no_way_back)
+
+
 def main():
     needed("postfix")
     programs, made, kills = programs_of(sys.argv[1:3]), sys.argv[3], int((sys.argv[4:] or ["200"])[0])
@@ -295,8 +299,7 @@ def main():
     try:
         build(host)
         reader = Reader(host)
-        for each in (plain_and_accented, page_with_picture, five_mebibytes, a_list, unknown_recipient, bad_address, receipt,
-                     answer, no_way_back):
+        for each in FLOWS if "kills" not in sys.argv[5:] else ():
             each(host, reader)
             print(f"{each.__name__.replace('_', ' ')}: as wanted", flush=True)
         print("read by IMAP, of dovecot" if reader.process else "read as files: dovecot is not here")
