@@ -23,11 +23,11 @@ case $prefix in /*) ;; *) echo "install.sh: PREFIX is a path from the root, and 
 root=${DESTDIR:-}$prefix
 share=$prefix/share/mta
 units="mta@.service mta-call@.service mta-call@.timer mta-watch@.service mta-watch@.timer mta-failed@.service
-  mta-follow@.service mta-follow@.timer mta-standby@.service"
+  mta-follow@.service mta-follow@.timer mta-standby@.service mta-mail@.service mta-mail@.timer"
 # the tools as commands, each with its file
 tools="mta-log=mta-log mta-look=mta-look mta-apdu=mta-apdu mta-content=mta-content mta-ipm=mta-ipm check-mta=check-mta
   mta-message=message.py mta-fetch=fetch.py mta-tables-check=tables-check.py mta-submit=submit.sh
-  mta-watch=watch.sh"
+  mta-watch=watch.sh mta-mail=mta-mail mta-mail-deliver=mta-mail-deliver"
 
 if [ "$remove" = yes ]; then
   for tool in $tools; do rm -f "$root/bin/${tool%%=*}" "$root/share/man/man1/${tool%%=*}.1"; done
@@ -36,6 +36,7 @@ if [ "$remove" = yes ]; then
   for name in mta mta-look mta-log; do rm -f "$root/share/bash-completion/completions/$name"; done
   rm -rf "$root/share/mta" "$root/share/doc/mta"
   rm -f "$root/bin/mta" "$root/bin/mta_rehearse" "$root/bin/mta_audit" "$root/bin/mta_follow" "$root/bin/mta_store"
+  rm -f "$root/lib/sysusers.d/mta-mail.conf" "$root/lib/tmpfiles.d/mta-mail.conf"
   rm -f "$root/lib/sysusers.d/mta.conf" "$root/lib/tmpfiles.d/mta.conf"
   echo "mta is taken out of $prefix; /var/lib/mta, /etc/mta and the user mta are left"
   exit 0
@@ -59,6 +60,9 @@ put bin/mta_follow "$follow" 755
 put bin/mta_store "$store" 755
 for tool in $tools; do put "share/mta/${tool#*=}" "$top/contrib/${tool#*=}" 755; done
 for file in "$top"/contrib/lib/*.py; do put "share/mta/lib/$(basename "$file")" "$file"; done
+for file in "$top"/contrib/mail/*.py; do put "share/mta/mail/$(basename "$file")" "$file"; done
+put lib/sysusers.d/mta-mail.conf "$top/contrib/systemd/mta-mail.sysusers"
+put lib/tmpfiles.d/mta-mail.conf "$top/contrib/systemd/mta-mail.tmpfiles"
 put share/mta/mta-why "$top/contrib/systemd/mta-why" 755
 for tool in $tools; do
   ln -sf "../share/mta/${tool#*=}" "$root/bin/${tool%%=*}"

@@ -158,3 +158,6 @@ def apdus_of(octets, wishes, table):
         return [back] if back is not None else it.message_apdus()
     except RecursionError as why:
         raise Refused(CANNOT_BE_READ, "the parts of the message are too deep within one another") from why
+    except (ValueError, LookupError, TypeError, AttributeError, AssertionError) as why:
+        # the parser of Python has faults of its own
+        raise Refused(CANNOT_BE_READ, f"the message is malformed: {fields.plain(str(why))[:100]}") from why
