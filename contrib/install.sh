@@ -70,6 +70,7 @@ for tool in $tools; do
   echo ".so man1/mta-tools.1" >"$root/share/man/man1/${tool%%=*}.1"
 done
 for page in "$top"/man/*; do put "share/man/man${page##*.}/$(basename "$page")" "$page"; done
+echo ".so man1/mta-mail.1" >"$root/share/man/man1/mta-mail-deliver.1"
 put share/bash-completion/completions/mta "$top/contrib/completion/mta"
 for name in mta-look mta-log; do ln -sf mta "$root/share/bash-completion/completions/$name"; done
 for unit in $units; do put_filled "lib/systemd/system/$unit" "$top/contrib/systemd/$unit"; done

@@ -37,7 +37,7 @@ BOXES = (
     ("undisclosed-recipients:;, a@b.c", [(None, "undisclosed-recipients", []), ("a@b.c", "", [])]),
     ("List: m@n.o, p@q.r;", [("m@n.o", "", []), ("p@q.r", "", [])]),
     ("<@a,@b:joe@where>", [("joe@where", "", [])]),
-    ("=?utf-8?q?J=C3=B8rgen?= <j@k.l>", [("j@k.l", "Jørgen", [])]),
+    ("=?utf-8?b?SsO4cmdlbg==?= <j@k.l>", [("j@k.l", "Jørgen", [])]),
     ("", []), (",,;", []), ("(((", []),
 )
 BAD_TABLES = ("gateway x.y\n", "prefix C=GB;A=X\n", f"{common.TABLE}gateway z.example\n", f"{common.TABLE}user a-b\n",
