@@ -106,33 +106,25 @@ fn stations_of<'a>(
     Ok(stations)
 }
 
-fn main(rt: HostRuntime) -> ExitCode {
-    let Ok(_streams) = Streams::taken(&rt) else {
-        return ExitCode::from(NO_STREAMS);
-    };
-    let mut out = Writing::new(io::writer(&rt));
-    let words = match arguments(&rt) {
+// Reads the words, and has `run` do what they say with the files, streams and stations of the process. It answers the
+// status.
+fn status_of<'a>(rt: &'a HostRuntime, process: &'a Process) -> u8 {
+    let mut out = Writing::new(io::writer(rt));
+    let words = match arguments(rt) {
         Ok(words) => words,
-        Err(error) => {
-            let status = tell(rt.alloc(), &mut out, &stop_of_words(&error));
-            return ExitCode::from(status);
-        }
+        Err(error) => return tell(rt.alloc(), &mut out, &stop_of_words(&error)),
     };
-    let process = Process::new(&rt, process::id(rt.process()));
-    let stations = match stations_of(&rt, &process, words.as_slice()) {
+    let stations = match stations_of(rt, process, words.as_slice()) {
         Ok(stations) => stations,
-        Err(_) => {
-            let status = tell(rt.alloc(), &mut out, &Stop::Memory);
-            return ExitCode::from(status);
-        }
+        Err(_) => return tell(rt.alloc(), &mut out, &Stop::Memory),
     };
-    let mut conf = Reading::new(Octets::File(File::open(&rt, "mta.tables").ok()));
+    let mut conf = Reading::new(Octets::File(File::open(rt, "mta.tables").ok()));
     let mut input = Reading::new(Octets::Stream(rt.reader()));
     // The file is opened at the first call, so a command that calls no disk leaves none behind.
-    let disk = FileDisk::new(&rt, &process, SPOOL);
-    let clock = SystemClock::new(&rt);
+    let disk = FileDisk::new(rt, process, SPOOL);
+    let clock = SystemClock::new(rt);
     let finished = run(
-        &rt,
+        rt,
         rt.alloc(),
         &words,
         &mut conf,
@@ -142,5 +134,13 @@ fn main(rt: HostRuntime) -> ExitCode {
         stations,
         clock,
     );
-    ExitCode::from(finished.status)
+    finished.status
+}
+
+fn main(rt: HostRuntime) -> ExitCode {
+    let Ok(_streams) = Streams::taken(&rt) else {
+        return ExitCode::from(NO_STREAMS);
+    };
+    let process = Process::new(&rt, process::id(rt.process()));
+    ExitCode::from(status_of(&rt, &process))
 }

@@ -1,9 +1,10 @@
 //! `mta_follow`, a standby on another machine: the process.
 //!
-//! `main` makes sure that the descriptors of the standard streams are taken, reads the words, names `mta.spool` in the folder in which it is called and standard output, makes the station
-//! that the words name, and hands all to `follow_run`; it ends with the status that this answers. The file is opened,
-//! made where it is absent, and locked at its disk's first call, and the lock goes with the process. Words that are not
-//! UTF-8 are told the usage line. What cannot be opened fails at every call, so it is told as a fault of that object.
+//! `main` makes sure that the descriptors of the standard streams are taken, reads the words, names `mta.spool` in the
+//! folder in which it is called and standard output, makes the station that the words name, and hands all to
+//! `follow_run`; it ends with the status that this answers. The file is opened, made where it is absent, and locked at
+//! its disk's first call, and the lock goes with the process. Words that are not UTF-8 are told the usage line. What
+//! cannot be opened fails at every call, so it is told as a fault of that object.
 #![tactic(auto)]
 
 use mta_ber::{Memory, Octets, Word};
@@ -78,22 +79,28 @@ fn station_of<'a>(
     }
 }
 
+// Reads the words, and has `follow_run` do what they say with the file, the output and the station of the process. It
+// answers the status.
+fn status_of<'a>(rt: &'a HostRuntime, process: &'a Process) -> u8 {
+    let mut out = Writing::new(io::writer(rt));
+    let words = match arguments(rt) {
+        Ok(words) => words,
+        Err(error) => return tell(&mut out, stop_of_words(&error)),
+    };
+    let station = match station_of(rt, process, words.as_slice()) {
+        Ok(station) => station,
+        Err(_) => return tell(&mut out, Stop::Memory),
+    };
+    let disk = FileDisk::new(rt, process, SPOOL);
+    let clock = SystemClock::new(rt);
+    let followed = follow_run(rt.alloc(), words.as_slice(), &mut out, disk, station, clock);
+    followed.status
+}
+
 fn main(rt: HostRuntime) -> ExitCode {
     let Ok(_streams) = Streams::taken(&rt) else {
         return ExitCode::from(NO_STREAMS);
     };
-    let mut out = Writing::new(io::writer(&rt));
-    let words = match arguments(&rt) {
-        Ok(words) => words,
-        Err(error) => return ExitCode::from(tell(&mut out, stop_of_words(&error))),
-    };
     let process = Process::new(&rt, process::id(rt.process()));
-    let station = match station_of(&rt, &process, words.as_slice()) {
-        Ok(station) => station,
-        Err(_) => return ExitCode::from(tell(&mut out, Stop::Memory)),
-    };
-    let disk = FileDisk::new(&rt, &process, SPOOL);
-    let clock = SystemClock::new(&rt);
-    let followed = follow_run(rt.alloc(), words.as_slice(), &mut out, disk, station, clock);
-    ExitCode::from(followed.status)
+    ExitCode::from(status_of(&rt, &process))
 }
