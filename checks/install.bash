@@ -25,12 +25,12 @@ if command -v systemd-analyze >/dev/null; then
   place=$2/prefix
   contrib/install.sh --program "$mta" "$place" >/dev/null || fails "a prefix of its own: status $?"
   units=$place/lib/systemd/system
-  said=$(MANPATH=$place/share/man: systemd-analyze verify --man=yes "$units"/mta{@,-failed@,-again@,-standby@}.service \
-    "$units"/mta-{call,watch,follow}@.timer "$units"/mta-{log@.service,archive@.timer} "$units"/mta-drop@.path 2>&1) ||
-    said="status $?: $said"
+  said=$(MANPATH=$place/share/man: systemd-analyze verify --man=yes \
+    "$units"/mta{@,-failed@,-again@,-standby@,-osi-out@,-osi-in@,-log@}.service \
+    "$units"/mta-{call,watch,follow,archive,mail}@.timer "$units"/mta-drop@.path 2>&1) || said="status $?: $said"
   [ -z "$said" ] || fails "systemd-analyze verify: $said"
   for unit in mta@GOLD mta-call@GOLD mta-watch@GOLD mta-failed@mta@GOLD.service mta-follow@GOLD mta-standby@GOLD \
-    mta-log@GOLD mta-archive@GOLD mta-drop@GOLD; do
+    mta-log@GOLD mta-archive@GOLD mta-drop@GOLD mta-osi-out@GOLD mta-osi-in@GOLD mta-mail@GOLD; do
     # 20 is an exposure of 2.0, "OK"
     systemd-analyze security --offline=true --threshold=20 --root="$root" "$unit.service" >/dev/null 2>&1 ||
       fails "systemd-analyze security: $unit is exposed"
@@ -75,6 +75,7 @@ mta-look . read w|watt
 mta-box . |list fetch delete
 mta-box . fetch b|bell
 mta-fetch --a|--as
+mta-osi o|out
 LINES
 fi
 DESTDIR=$root contrib/install.sh --remove /usr >/dev/null || fails "--remove ended with $?"

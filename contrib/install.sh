@@ -24,11 +24,14 @@ case $prefix in /*) ;; *) echo "install.sh: PREFIX is a path from the root, and 
 root=${DESTDIR:-}$prefix
 share=$prefix/share/mta
 units="mta@.service mta-call@.service mta-call@.timer mta-watch@.service mta-watch@.timer mta-failed@.service
-  mta-again@.service mta-follow@.service mta-follow@.timer mta-standby@.service mta-drop@.path mta-drop@.service"
+  mta-again@.service mta-follow@.service mta-follow@.timer mta-standby@.service mta-drop@.path mta-drop@.service
+  mta-osi-out@.service mta-osi-in@.service mta-mail@.service mta-mail@.timer"
 # the tools as commands, each with its file
 tools="mta-log=mta-log mta-look=mta-look mta-apdu=mta-apdu mta-content=mta-content mta-ipm=mta-ipm check-mta=check-mta
   mta-message=message.py mta-fetch=fetch.py mta-tables-check=tables-check.py mta-submit=submit.sh
-  mta-watch=watch.sh mta-drop=mta-drop mta-report=mta-report"
+  mta-watch=watch.sh mta-drop=mta-drop mta-report=mta-report mta-mail=mta-mail mta-mail-deliver=mta-mail-deliver"
+# commands whose completion stands with that of mta
+with_mta="mta-osi mta-mail mta-mail-deliver"
 # commands whose completion is that of all tools
 completed="mta-message mta-ipm mta-report mta-content mta-submit mta-drop mta-tables-check mta-apdu mta_store mta_follow
   mta_audit"
@@ -41,9 +44,12 @@ if [ "$remove" = yes ]; then
   for tool in $tools; do rm -f "$root/bin/${tool%%=*}" "$root/share/man/man1/${tool%%=*}.1"; done
   for unit in $units; do rm -f "$root/lib/systemd/system/$unit"; done
   for page in "$top"/man/*; do rm -f "$root/share/man/man${page##*.}/$(basename "$page")"; done
-  for name in mta mta-tools $completed $watching; do rm -f "$root/share/bash-completion/completions/$name"; done
+  for name in mta mta-tools $with_mta $completed $watching; do
+    rm -f "$root/share/bash-completion/completions/$name"
+  done
   rm -rf "$root/share/mta" "$root/share/doc/mta"
-  rm -f "$root/bin/mta" "$root/bin/mta_rehearse" "$root/bin/mta_audit" "$root/bin/mta_follow" "$root/bin/mta_store"
+  for name in mta mta_rehearse mta_audit mta_follow mta_store mta-osi; do rm -f "$root/bin/$name"; done
+  rm -f "$root/lib/sysusers.d/mta-mail.conf" "$root/lib/tmpfiles.d/mta-mail.conf"
   rm -f "$root/lib/sysusers.d/mta.conf" "$root/lib/tmpfiles.d/mta.conf"
   echo "mta is taken out of $prefix; /var/lib/mta, /etc/mta and the user mta are left"
   exit 0
@@ -68,6 +74,12 @@ put bin/mta_store "$store" 755
 for tool in $tools; do put "share/mta/${tool#*=}" "$top/contrib/${tool#*=}" 755; done
 for file in "$top"/contrib/lib/*.py; do put "share/mta/lib/$(basename "$file")" "$file"; done
 for name in mta-why mta-again; do put "share/mta/$name" "$top/contrib/systemd/$name" 755; done
+put share/mta/mta-osi "$top/contrib/mta-osi" 755
+for file in "$top"/contrib/osi/*.py; do put "share/mta/osi/$(basename "$file")" "$file"; done
+mkdir -p "$root/bin" && ln -sf ../share/mta/mta-osi "$root/bin/mta-osi"
+for file in "$top"/contrib/mail/*.py; do put "share/mta/mail/$(basename "$file")" "$file"; done
+put lib/sysusers.d/mta-mail.conf "$top/contrib/systemd/mta-mail.sysusers"
+put lib/tmpfiles.d/mta-mail.conf "$top/contrib/systemd/mta-mail.tmpfiles"
 for tool in $tools; do
   ln -sf "../share/mta/${tool#*=}" "$root/bin/${tool%%=*}"
   mkdir -p "$root/share/man/man1"
@@ -77,7 +89,9 @@ for name in mta-fetch=mta-box mta-archive=mta-log mta-trace=mta-log; do
   echo ".so man1/${name#*=}.1" >"$root/share/man/man1/${name%%=*}.1"
 done
 for page in "$top"/man/*; do put "share/man/man${page##*.}/$(basename "$page")" "$page"; done
+echo ".so man1/mta-mail.1" >"$root/share/man/man1/mta-mail-deliver.1"
 put share/bash-completion/completions/mta "$top/contrib/completion/mta"
+for name in $with_mta; do ln -sf mta "$root/share/bash-completion/completions/$name"; done
 put share/bash-completion/completions/mta-tools "$top/contrib/completion/mta-tools"
 for name in $completed; do ln -sf mta-tools "$root/share/bash-completion/completions/$name"; done
 put share/bash-completion/completions/mta-log "$top/contrib/completion/watching"

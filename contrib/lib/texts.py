@@ -8,7 +8,7 @@ PARTS = ((1, 100, "A"), (2, 101, "B"), (3, 109, "C"), (4, 110, "D"), (5, 144, "L
          (8, 138, "H"), (9, 148, "M"), (10, 157, "V"), (13, 179, "Y"), (14, 199, "_"), (15, 203, "b"), (16, 226, "f"))
 OF_NUMBER = {number: f"iso8859-{part}" for part, number, _ in PARTS}
 OF_FINAL = {ord(final): f"iso8859-{part}" for part, _, final in PARTS}
-CONTROLS, ASCII = 1, 6  # numbers of the sets of control and of graphic characters
+CONTROLS, ASCII = 1, 6  # numbers of the sets of controls and of the left half
 ESCAPE = re.compile(rb"\x1b[\x20-\x2f]+[\x30-\x7e]")
 DESIGNATES_G1 = b"\x1b-"
 INSTEAD = "?"  # of a character that a set does not have
@@ -32,7 +32,7 @@ def general(text):
             octets = text.encode(f"iso8859-{part}")
         except UnicodeEncodeError:
             continue
-        if not re.search(rb"[\x80-\x9f]", octets):  # the upper control characters are not among the sets
+        if not re.search(rb"[\x80-\x9f]", octets):  # the other set of controls is not among them
             return [CONTROLS, ASCII, number], DESIGNATES_G1 + final.encode("ascii") + octets
     return None
 
