@@ -21,7 +21,7 @@ from real import OURS, TABLES, THEIRS, Silver, values
 from record import Record
 from together import all_at_once
 from units import PROTOCOL, Abort, write
-from watched import stations
+from station_lines import stations
 
 SOON = 30  # seconds within which a process ends, or a station says that it has
 FAULT = 4  # the status of a disk that failed

@@ -26,7 +26,7 @@ from record import Record
 from responder import Responder
 from together import all_at_once
 from units import LONGEST, PROTOCOL, Abort, Start, write
-from watched import stations
+from station_lines import stations
 
 FLOODS = {}
 BY_NAME = {}  # those that are run only where they are named
